@@ -1,0 +1,16 @@
+//! Stores: what the pages of a pool are read from and written to. `Store` is the one interface that generic code knows;
+//! its contract stands on what a store means (specs/Meaning.antt). `StoreFault` has the refusals of all stores.
+//! `WorkFile` is the open store over bytes of its own.
+
+pub mod faults;
+pub mod file;
+pub mod store;
+mod works;
+
+pub use faults::Layer;
+pub use faults::LayerDisplay;
+pub use faults::StoreFault;
+pub use faults::StoreFaultDisplay;
+pub use file::WorkFile;
+pub use store::Store;
+pub use works::WorkFileStore;
