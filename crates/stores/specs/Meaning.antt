@@ -1,13 +1,16 @@
 -- What a store means, and what its calls do to that.
 --   Meaning        a store's page size, its mark, and the page of each key that it holds
+--   WholePages     the law of every store: each held page has P bytes
 --   held, pageOf   whether it holds a key; the key's page
 --   withPage       the store with another page for one key, and no other change
 --   readRefusal, writeRefusal   the questions of a read and of a write, in their order
 -- A key stands here by its meaning, a list of numbers; a page is the list of its bytes.
+use mathlib.Core.Path.{_≡_}
 use mathlib.Core.Bool.{Bool, cond}
 use mathlib.Core.List.{List, []}
 use Prim.Native.Nat.{ℕ}
 use lib.Dec.{eqb}
+use lib.ListN.{length}
 use Rattle.std.specs.declared.option.Option.{Option}
 use Rattle.std.specs.declared.option.Option.the-variants.{Some, None}
 use Rattle.std.specs.Options.{isSome, valueOr}
@@ -17,6 +20,10 @@ pub record Meaning : Type 0 where
   pub size : ℕ  -- P, the bytes of a page
   pub isOpen : Bool  -- open, or else sealed
   pub pages : List ℕ → Option (List ℕ)  -- the page of each key that it holds
+
+-- every page that is held has P bytes
+abbrev pub WholePages : Meaning → Type 0
+WholePages m = (k page : List ℕ) → m .pages k ≡ Some page → length page ≡ m .size
 
 abbrev pub held : Meaning → List ℕ → Bool
 held m k = isSome (m .pages k)

@@ -65,7 +65,7 @@ pub impl fmt::Display for StoreFault as StoreFaultDisplay {
         f.write_str(match self {
             StoreFault::PageSize => "the page size is not from 1 to 4096",
             StoreFault::SectionOne => "the rows are not all there, or there are more than 256",
-            StoreFault::Row => "a row has a unknown unit, too many pages or a delivery listed before",
+            StoreFault::Row => "a row has an unknown unit, too many pages or a delivery listed before",
             StoreFault::SectionTwo => "the pages are not exactly those that the rows count",
             StoreFault::FileLength => "the bytes are not a whole number of pages, or are more than 1048576 pages",
             StoreFault::NotHeld => "the store does not hold the key",

@@ -2,13 +2,10 @@
 
 ghost use mathlib.Core.Path.{_≡_};
 ghost use mathlib.Core.Bool.{cond};
-ghost use mathlib.Core.List.{List};
-ghost use Prim.Native.Nat.{ℕ};
 ghost use lib.ListN.{length};
-ghost use Rattle.std.specs.declared.option.Option.the-variants.{Some};
 ghost use Rattle.std.specs.Results.{isOk};
 ghost use Rattle.stores.specs.Faults.{refused};
-ghost use Rattle.stores.specs.Meaning.{Meaning, held, pageOf, withPage, readRefusal, writeRefusal};
+ghost use Rattle.stores.specs.Meaning.{Meaning, WholePages, held, pageOf, withPage, readRefusal, writeRefusal};
 use crate::faults::StoreFault;
 use keys::Key;
 
@@ -17,12 +14,10 @@ use keys::Key;
 pub trait Store<K: Key> {
     ghost meant: { Self → Meaning };
 
-    // every held page has as many bytes as the store says
-    law sized: { (s : Self) (k page : List ℕ) → meant s .pages k ≡ Some page → length page ≡ meant s .size };
-
-    /// P, the bytes of a page.
+    /// P, the bytes of a page. With the answer comes the law of every store: each held page has P bytes.
     fn page_size(&self) -> usize
-        ensures { λ r. ⌜ r ≡ meant (now (self .entry)) .size ⌝ };
+        ensures size { λ r. ⌜ r ≡ meant (now (self .entry)) .size ⌝ }
+        ensures law { λ r. ⌜ WholePages (meant (now (self .entry))) ⌝ };
 
     /// Whether pages may be written.
     fn is_open(&self) -> bool

@@ -5,10 +5,10 @@ ghost use mathlib.Core.Bool.{cond};
 ghost use mathlib.Core.List.{List, [], _∷_};
 ghost use Prim.Native.Nat.{ℕ, _+_, _*_, _≤_, _<_};
 ghost use lib.ListN.{length};
-ghost use Rattle.std.specs.declared.option.Option.the-variants.{Some, None};
+ghost use Rattle.std.specs.declared.option.Option.the-variants.{None};
 ghost use Rattle.std.specs.Of.Vec.{vec-items, vec-len};
 ghost use Rattle.std.specs.Results.{Cases};
-ghost use Rattle.stores.specs.Faults.{number};
+ghost use Rattle.stores.specs.Faults.{refused};
 ghost use Rattle.stores.specs.declared.faults.StoreFault.the-variants.{NotHeld};
 ghost use Rattle.stores.specs.Files.{fileRefusal, fileOf, meantBy};
 ghost use Rattle.stores.specs.Parts.{laid};
@@ -31,19 +31,26 @@ fn lay(bytes: &mut [u8], at: usize, page: &[u8])
 }
 
 impl WorkFile {
-    /// Takes the bytes, or hands them back with the refusal.
-    pub fn open(bytes: Vec<u8>, page_size: usize) -> Result<WorkFile, (StoreFault, Vec<u8>)>
-        ensures { λ r. ⌜ Cases r
-            (λ w. (fileRefusal «page_size» (vec-len bytes) ≡ None) × (meantBy w ≡ fileOf «page_size» (vec-items bytes)))
-            (λ e. (fileRefusal «page_size» (vec-len bytes) ≡ Some (number (e .0))) × (e .1 ≡ bytes)) ⌝ }
+    /// The questions of opening the bytes as a work file with pages of `page_size` bytes.
+    pub fn check(bytes: &[u8], page_size: usize) -> Result<(), StoreFault>
+        ensures { λ r. ⌜ refused r ≡ fileRefusal «page_size» (length (now (bytes .entry))) ⌝ }
     {
         if page_size < 1 || page_size > LARGEST_PAGE {
-            return Err((StoreFault::PageSize, bytes));
+            return Err(StoreFault::PageSize);
         }
         if bytes.len() % page_size != 0 || bytes.len() / page_size > MOST_PAGES {
-            return Err((StoreFault::FileLength, bytes));
+            return Err(StoreFault::FileLength);
         }
-        Ok(WorkFile { bytes, page_size })
+        Ok(())
+    }
+
+    /// The work file over the bytes; `check` has said yes to them.
+    pub fn open(bytes: Vec<u8>, page_size: usize) -> WorkFile
+        requires { ⌜ fileRefusal «page_size» (vec-len bytes) ≡ None ⌝ }
+        ensures meaning { λ w. ⌜ meantBy w ≡ fileOf «page_size» (vec-items bytes) ⌝ }
+        ensures bytes { λ w. ⌜ w .bytes ≡ bytes ⌝ }
+    {
+        WorkFile { bytes, page_size }
     }
 
     /// All bytes, page after page.
