@@ -2,6 +2,7 @@
 --   listedBy, meantBy    the rows of a bundle that was opened, and its meaning as a store
 --   Opened               what opening a bundle gives
 --   unitOf               the unit of amounts, by its number in a row
+--   Listing, listed, listingOf   what a row lists, from the format and from the code
 --   rowOf, placeOf       a row, and a row with its place, as the format has them
 --   unitIn, pagesOf, unlisted   the unit and the page count of a delivery, if a row lists it, and the refusal if none does
 use mathlib.Core.Path.{_≡_}
@@ -21,6 +22,7 @@ use Rattle.bundles.specs.declared.rows.AmountUnit.{AmountUnit}
 use Rattle.bundles.specs.declared.rows.AmountUnit.the-variants.{Whole, Thousands}
 use Rattle.bundles.specs.declared.rows.RowRecord.{RowRecord}
 use Rattle.bundles.specs.declared.reading.Place.{Place}
+use Rattle.bundles.specs.declared.reading.Delivery.{Delivery}
 
 abbrev pub listedBy : Bundle → List Row
 listedBy b = rowsIn (now (b .rows)) (b .«row_count»)
@@ -37,6 +39,18 @@ pub record Opened (p : ℕ) (bytes : List ℕ) (b : Bundle) : Type 0 where
 
 abbrev pub unitOf : ℕ → AmountUnit
 unitOf n = cond (eqb n 0) Whole Thousands
+
+-- what a row lists, and a delivery as the code has it
+pub record Listing : Type 0 where
+  pub number : ℕ
+  pub unit : AmountUnit
+  pub pages : ℕ
+
+abbrev pub listed : Row → Listing
+listed r = record { number = r .delivery; unit = unitOf (r .unit); pages = r .pages }
+
+abbrev pub listingOf : Delivery → Listing
+listingOf d = record { number = d .number .0; unit = d .unit; pages = d .pages }
 
 abbrev pub rowOf : RowRecord → Row
 rowOf r = record { delivery = r .delivery .0; unit = r .unit; pages = r .pages }

@@ -16,6 +16,7 @@ pub struct Bundle<'a> {
     pub(crate) pages: &'a [u8],
     pub(crate) row_count: usize,
     pub(crate) page_size: usize,
+    ghost sized: { 1 ≤ «page_size» },
     ghost few: { «row_count» ≤ 256 },
     ghost whole: { length (now rows) ≡ 7 * «row_count» },
     ghost exact: { length (now pages) ≡ pagesIn (rowsIn (now rows) «row_count») * «page_size» },

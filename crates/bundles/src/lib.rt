@@ -8,4 +8,5 @@ mod rows;
 
 pub use bundle::Bundle;
 pub use reading::BundleStore;
+pub use reading::Delivery;
 pub use rows::AmountUnit;

@@ -9,14 +9,21 @@ ghost use Rattle.std.specs.declared.option.Option.the-variants.{Some, None};
 ghost use Rattle.std.specs.shelf.Maps.{nth};
 ghost use Rattle.stores.specs.Faults.{refused};
 ghost use Rattle.stores.specs.declared.faults.StoreFault.the-variants.{NotHeld};
+ghost use Rattle.bundles.specs.Format.{pagesIn};
 ghost use Rattle.bundles.specs.Contents.{found, pageNumber};
-ghost use Rattle.bundles.specs.Bundles.{listedBy, meantBy, placeOf, unitIn, pagesOf, unlisted};
+ghost use Rattle.bundles.specs.Bundles.{listedBy, meantBy, unitOf, listed, listingOf, placeOf, unitIn, pagesOf, unlisted};
 use crate::bundle::Bundle;
 use crate::rows::AmountUnit;
+use crate::rows::AmountUnitDebug;
+use crate::rows::AmountUnitEq;
+use crate::rows::AmountUnitPartialEq;
 use crate::rows::RowRecord;
 use crate::rows::row_at;
 use keys::DeliveryKey;
 use keys::DeliveryNo;
+use keys::DeliveryNoDebug;
+use keys::DeliveryNoEq;
+use keys::DeliveryNoPartialEq;
 use keys::DeliveryPageKey;
 use stores::Store;
 use stores::StoreFault;
@@ -26,6 +33,21 @@ use stores::StoreFault;
 pub struct Place {
     pub before: usize,
     pub row: RowRecord,
+}
+
+/// A delivery as its row lists it.
+#[derive(Clone, Copy, PartialEq, Eq, Debug)]
+pub struct Delivery {
+    pub number: DeliveryNo,
+    pub unit: AmountUnit,
+    pub pages: u32,
+}
+
+// The unit of a row's number.
+fn unit_numbered(n: u8) -> AmountUnit
+    ensures { λ r. ⌜ r ≡ unitOf n ⌝ }
+{
+    if n == 0 { AmountUnit::Whole } else { AmountUnit::Thousands }
 }
 
 impl Bundle<'_> {
@@ -67,14 +89,22 @@ impl Bundle<'_> {
         self.row_count
     }
 
-    /// The delivery that the i-th row lists, counted from 0.
-    pub fn delivery(&self, i: usize) -> Option<DeliveryNo>
-        ensures { λ r. ⌜ mapped (λ d. d .0) r ≡ mapped (λ x. x .delivery) (nth (listedBy (now (self .entry))) i) ⌝ }
+    /// How many pages the bundle has in all.
+    pub fn page_total(&self) -> usize
+        ensures { λ r. ⌜ r ≡ pagesIn (listedBy (now (self .entry))) ⌝ }
+    {
+        self.pages.len() / self.page_size
+    }
+
+    /// What the i-th row lists, counted from 0.
+    pub fn row(&self, i: usize) -> Option<Delivery>
+        ensures { λ r. ⌜ mapped listingOf r ≡ mapped listed (nth (listedBy (now (self .entry))) i) ⌝ }
     {
         if i >= self.row_count {
             return None;
         }
-        Some(row_at(self.rows, i).delivery)
+        let row = row_at(self.rows, i);
+        Some(Delivery { number: row.delivery, unit: unit_numbered(row.unit), pages: row.pages })
     }
 
     /// The unit of a delivery's amounts.
@@ -84,7 +114,7 @@ impl Bundle<'_> {
     {
         match self.find(delivery) {
             None => Err(StoreFault::NotHeld),
-            Some(place) => Ok(if place.row.unit == 0 { AmountUnit::Whole } else { AmountUnit::Thousands }),
+            Some(place) => Ok(unit_numbered(place.row.unit)),
         }
     }
 

@@ -1,7 +1,8 @@
 //! The refusals of the stores.
 
 ghost use mathlib.Core.Path.{_≡_};
-ghost use Rattle.stores.specs.Faults.{number};
+ghost use Rattle.std.specs.declared.option.Option.the-variants.{Some};
+ghost use Rattle.stores.specs.Faults.{number, reason, layerName};
 ghost use Rattle.stores.specs.declared.faults.Layer.the-variants.{Store};
 use std::fmt;
 
@@ -51,6 +52,22 @@ impl StoreFault {
         }
     }
 
+    /// What was wrong, in words.
+    pub fn reason(&self) -> &'static str
+        ensures { λ r. ⌜ now r ≡ reason (now (self .entry)) ⌝ }
+    {
+        match self {
+            StoreFault::PageSize => "the page size is not from 1 to 4096",
+            StoreFault::SectionOne => "the rows are not all there, or are more than 256",
+            StoreFault::Row => "a row has an unknown unit, too many pages or a delivery listed before",
+            StoreFault::SectionTwo => "the pages are not exactly those that the rows count",
+            StoreFault::FileLength => "the bytes are not a whole number of pages, or are more than 1048576 pages",
+            StoreFault::NotHeld => "the store does not hold the key",
+            StoreFault::Sealed => "the store is sealed",
+            StoreFault::BufferLength => "the buffer is not as long as a page",
+        }
+    }
+
     /// A store's fault names the store.
     pub fn layer(&self) -> Layer
         ensures { λ r. ⌜ r ≡ Store ⌝ }
@@ -61,22 +78,17 @@ impl StoreFault {
 
 /// The reason, in words.
 pub impl fmt::Display for StoreFault as StoreFaultDisplay {
+    ghost shown = { λ f. Some (reason f) };
+
     fn fmt<W: fmt::Write>(&self, f: &mut fmt::Formatter<W>) -> fmt::Result {
-        f.write_str(match self {
-            StoreFault::PageSize => "the page size is not from 1 to 4096",
-            StoreFault::SectionOne => "the rows are not all there, or there are more than 256",
-            StoreFault::Row => "a row has an unknown unit, too many pages or a delivery listed before",
-            StoreFault::SectionTwo => "the pages are not exactly those that the rows count",
-            StoreFault::FileLength => "the bytes are not a whole number of pages, or are more than 1048576 pages",
-            StoreFault::NotHeld => "the store does not hold the key",
-            StoreFault::Sealed => "the store is sealed",
-            StoreFault::BufferLength => "the buffer is not as long as a page",
-        })
+        f.write_str(self.reason())
     }
 }
 
 /// The layer, as a refusal is printed: `refused 9 by store`.
 pub impl fmt::Display for Layer as LayerDisplay {
+    ghost shown = { λ l. Some (layerName l) };
+
     fn fmt<W: fmt::Write>(&self, f: &mut fmt::Formatter<W>) -> fmt::Result {
         f.write_str(match self {
             Layer::Store => "store",
