@@ -4,15 +4,18 @@
 --   listing        the lines of a bundle
 --   Described      what is printed of bytes that may be a bundle
 --   hexed          bytes as pairs of hexadecimal digits
+--   pageText       what is printed of a key's page
 use mathlib.Core.Path.{_≡_}
 use mathlib.Core.List.{List, [], _∷_, _++_}
 use Prim.Native.Nat.{ℕ, _/_, _%_}
 use lib.Chars.{codes}
 use Rattle.std.specs.declared.option.Option.the-variants.{Some, None}
 use Rattle.std.specs.Written.{decimal, glyph}
-use mathlib.Core.Bool.{false}
+use mathlib.Core.Bool.{false, cond}
 use Rattle.stores.specs.Faults.{number, reason}
+use Rattle.stores.specs.Meaning.{Meaning, held, pageOf}
 use Rattle.stores.specs.declared.faults.StoreFault.{StoreFault}
+use Rattle.stores.specs.declared.faults.StoreFault.the-variants.{NotHeld}
 use Rattle.bundles.specs.Format.{Row, rowsOf, pagesIn, bundleRefusal}
 use Rattle.bundles.specs.Bundles.{unitOf}
 use Rattle.bundles.specs.declared.rows.AmountUnit.{AmountUnit}
@@ -45,3 +48,7 @@ pub data Described (p : ℕ) (bytes : List ℕ) : List ℕ → Type 0 where
 abbrev pub hexed : List ℕ → List ℕ
 hexed [] = []
 hexed (b ∷ bytes) = glyph false (b / 16) ∷ (glyph false (b % 16) ∷ hexed bytes)
+
+-- what is printed of a key's page: the page, or the refusal if the store does not hold the key
+abbrev pub pageText : Meaning → List ℕ → List ℕ
+pageText m k = cond (held m k) (hexed (pageOf m k)) (refusalLine NotHeld)

@@ -2,6 +2,7 @@
 
 mod lines;
 mod listings;
+mod pages;
 
 pub use lines::DeliveryLine;
 pub use lines::DeliveryLineDisplay;
@@ -9,3 +10,4 @@ pub use lines::RefusalLine;
 pub use lines::RefusalLineDisplay;
 pub use listings::describe;
 pub use listings::hex;
+pub use pages::page_text;

@@ -1,4 +1,4 @@
--- Laying bytes on the bytes of the frames.
+-- Laying bytes on bytes that hold one page after another, and reading a page of them back.
 use mathlib.Core.Path.{_≡_, refl, sym, ap, ap₂, subst, _∙_}
 use mathlib.Core.Bool.{false}
 use mathlib.Core.List.{List, [], _++_}
@@ -9,7 +9,7 @@ use native.Mathlib.Nat.{add-mul, one-mul}
 use lib.Dec.{eqb}
 use lib.ListN.{length, take, drop}
 use lib.Seq.{take-append-add, drop-append-add}
-use Rattle.std.proofs.shelf.Lists.{length-take, length-drop, length-append, take-take, take-append-le, drop-append-le, drop-drop, drop-take, drop-all, append-nil}
+use Rattle.std.proofs.shelf.Lists.{length-take, length-drop, length-append, take-take, take-append-le, drop-append-le, drop-drop, drop-take, drop-all, take-all, append-nil}
 use Rattle.std.proofs.shelf.Bits.{mul-le}
 use Rattle.std.proofs.shelf.Tests.{eqb-false, cases-order}
 use Rattle.stores.specs.Parts.{partOf, laid}
@@ -116,3 +116,9 @@ pub filled-fits : (m p f : ℕ) (page bytes : List ℕ) → f < m → length byt
 filled-fits m p f page bytes h j i =
     let e : f * p + 0 ≡ f * p = omega arith in
     ap (λ x. length (laid x page bytes)) (sym e) ∙ laid-fits m p f 0 page bytes h j (omega arith)
+
+-- a vector that is filled with as many elements has these
+pub refills : (xs ys : List ℕ) (n : ℕ) → length ys ≡ n → length xs ≡ n → take n (ys ++ drop (length ys) xs) ≡ ys
+refills xs ys n h j =
+    let d : drop (length ys) xs ≡ [] = drop-all (length ys) xs (omega arith) in
+    ap (λ x. take n (ys ++ x)) d ∙ ap (take n) (append-nil ys) ∙ take-all n ys (omega arith)

@@ -1,22 +1,14 @@
 use mathlib.Core.Path.{_≡_, ap, sym, _∙_}
 use native.Mathlib.Omega.{arith}
 use borrow.Author.Needs.{needs}
-use lib.ListN.{length, take, drop}
-use mathlib.Core.List.{List, [], _++_}
-use Prim.Native.Nat.{ℕ, _+_, _*_, _≤_}
+use lib.ListN.{length}
+use Prim.Native.Nat.{_+_, _*_, _≤_}
 use Rattle.std.specs.Of.Vec.{vec-items}
-use Rattle.std.proofs.shelf.Lists.{drop-all, take-all, append-nil}
 use Rattle.stores.specs.Parts.{laid}
 use Rattle.stores.specs.Files.{fileOf}
-use Rattle.stores.proofs.Bytes.{length-laid}
+use Rattle.stores.proofs.Bytes.{length-laid, refills}
 use Rattle.stores.proofs.Filed.{file-written}
 use Rattle.stores.proofs.works.WorkFileStore.write.Needs as need
-
--- a vector that is filled with as many elements has these
-refills : (xs ys : List ℕ) (n : ℕ) → length ys ≡ n → length xs ≡ n → take n (ys ++ drop (length ys) xs) ≡ ys
-refills xs ys n h j =
-    let d : drop (length ys) xs ≡ [] = drop-all (length ys) xs (omega arith) in
-    ap (λ x. take n (ys ++ x)) d ∙ ap (take n) (append-nil ys) ∙ take-all n ys (omega arith)
 
 pub returns : need.returns
 returns c =
