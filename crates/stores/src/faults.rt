@@ -91,9 +91,9 @@ pub impl fmt::Display for Layer as LayerDisplay {
 
     fn fmt<W: fmt::Write>(&self, f: &mut fmt::Formatter<W>) -> fmt::Result {
         f.write_str(match self {
-            Layer::Store => "store",
-            Layer::Pool => "pool",
-            Layer::Table => "table",
+            Self::Store => "store",
+            Self::Pool => "pool",
+            Self::Table => "table",
         })
     }
 }

@@ -2,14 +2,20 @@
 //! its contract stands on what a store means (specs/Meaning.antt). `StoreFault` has the refusals of all stores.
 //! `WorkFile` is the open store over bytes of its own.
 
-pub mod faults;
-pub mod file;
-pub mod store;
+mod faults;
+mod file;
+mod store;
 mod works;
 
 pub use faults::Layer;
 pub use faults::LayerDisplay;
+pub use faults::LayerDebug;
+pub use faults::LayerEq;
+pub use faults::LayerPartialEq;
 pub use faults::StoreFault;
+pub use faults::StoreFaultDebug;
+pub use faults::StoreFaultEq;
+pub use faults::StoreFaultPartialEq;
 pub use faults::StoreFaultDisplay;
 pub use file::WorkFile;
 pub use store::Store;

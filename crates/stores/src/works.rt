@@ -11,6 +11,7 @@ ghost use Rattle.std.specs.Results.{Cases};
 ghost use Rattle.stores.specs.Faults.{refused};
 ghost use Rattle.stores.specs.declared.faults.StoreFault.the-variants.{NotHeld};
 ghost use Rattle.stores.specs.Files.{fileRefusal, fileOf, meantBy};
+ghost use Rattle.stores.specs.Meaning.{withPage};
 ghost use Rattle.stores.specs.Parts.{laid};
 use crate::faults::StoreFault;
 use crate::file::WorkFile;
@@ -80,6 +81,15 @@ impl WorkFile {
         }
         Ok(at)
     }
+
+    // Lays the page in the place of the key's.
+    fn put(&mut self, key: &PageNo, page: &[u8])
+        requires { ⌜ now key .0 * now self .«page_size» + now self .«page_size» ≤ vec-len (now self .bytes) ⌝ ∗ ⌜ length (now page) ≡ now self .«page_size» ⌝ }
+        ensures { λ _. ⌜ meantBy (now (self .exit)) ≡ withPage (now (key .entry) .0 ∷ []) (now (page .entry)) (meantBy (now (self .entry))) ⌝ }
+    {
+        let at = key.0 as usize * self.page_size;
+        lay(self.bytes.as_mut_slice(), at, page);
+    }
 }
 
 pub impl Store<PageNo> for WorkFile as WorkFileStore {
@@ -111,8 +121,8 @@ pub impl Store<PageNo> for WorkFile as WorkFileStore {
         if page.len() != self.page_size {
             return Err(StoreFault::BufferLength);
         }
-        let at = self.place(key)?;
-        lay(self.bytes.as_mut_slice(), at, page);
+        self.place(key)?;
+        self.put(key, page);
         Ok(())
     }
 }
