@@ -16,7 +16,13 @@ usage:
 
 fn main(rt: LibcRuntime) -> Result<(), AnyError> {
     let heap = rt.alloc();
-    rt.report(run(&rt, heap))
+    match run(&rt, heap) {
+        Ok(()) => Ok(()),
+        Err(e) => {
+            eprintln!(rt, "cabinet: {e}")?;
+            Err(e)
+        }
+    }
 }
 
 // The words of the call, without the program's own name.

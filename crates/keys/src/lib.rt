@@ -2,9 +2,13 @@
 //! be taken for another. A key names a page of a store; code that is generic in the kind of key knows only `Key`.
 
 ghost use mathlib.Core.Path.{_≡_};
-ghost use mathlib.Core.List.{List, [], _∷_};
+ghost use mathlib.Core.List.{List, [], _∷_, _++_};
 ghost use Prim.Native.Nat.{ℕ};
+ghost use lib.Chars.{codes};
+ghost use Rattle.std.specs.declared.option.Option.the-variants.{Some};
+ghost use Rattle.std.specs.Written.{decimal};
 ghost use Rattle.keys.specs.Same.{sameList, Exactly};
+use std::fmt;
 
 /// The number of a frame: a place for one page in the pool's memory. Frames count from 0.
 #[derive(Clone, Copy, PartialEq, Eq, Debug)]
@@ -40,6 +44,16 @@ pub impl Key for PageNo as PageKey {
     }
 }
 
+/// A page key is written as its number.
+pub impl fmt::Display for PageNo as PageNoDisplay {
+    ghost shown = { λ k. Some (decimal (k .0)) };
+
+    fn fmt<W: fmt::Write>(&self, f: &mut fmt::Formatter<W>) -> fmt::Result {
+        let page = self.0;
+        write!(f, "{page}")
+    }
+}
+
 /// A page of a delivery. Deliveries number their pages alike, so the delivery is part of the key.
 #[derive(Clone, Copy, PartialEq, Eq, Debug)]
 pub struct DeliveryKey {
@@ -52,6 +66,17 @@ pub impl Key for DeliveryKey as DeliveryPageKey {
 
     fn same(&self, other: &DeliveryKey) -> bool {
         self.delivery.0 == other.delivery.0 && self.page.0 == other.page.0
+    }
+}
+
+/// A delivery key is written as its two numbers, `7/5` for page 5 of delivery 7.
+pub impl fmt::Display for DeliveryKey as DeliveryKeyDisplay {
+    ghost shown = { λ k. Some (decimal (k .delivery .0) ++ (codes "/" ++ decimal (k .page .0))) };
+
+    fn fmt<W: fmt::Write>(&self, f: &mut fmt::Formatter<W>) -> fmt::Result {
+        let delivery = self.delivery.0;
+        let page = self.page.0;
+        write!(f, "{delivery}/{page}")
     }
 }
 
