@@ -1,6 +1,7 @@
 //! The program `cabinet`. Without words it runs the demonstration; `help` names the words that it takes.
 
 mod demo;
+mod machine;
 
 use std::alloc::Global;
 use std::env;
@@ -11,6 +12,8 @@ const USAGE: &str = "\
 usage:
   cabinet                  runs the demonstration
   cabinet bundle P FILE    opens FILE as a bundle with pages of P bytes and lists its deliveries
+  cabinet machine M KEY .. borrows and returns each key in turn, in a pool of M frames on a plain list;
+                           KEY+ keeps the loan, -KEY returns one; a key is 5, or 7/5 for delivery 7, page 5
   cabinet help             prints this text
 ";
 
@@ -45,6 +48,7 @@ fn run(rt: &LibcRuntime, heap: Global) -> Result<(), AnyError> {
             Ok(())
         }
         "bundle" => bundle(rt, heap, words.as_slice()),
+        "machine" => machine::run(rt, heap, &words.as_slice()[1..]),
         other => {
             rt.print(USAGE)?;
             let message = format!(heap, "there is no word {other}")?;

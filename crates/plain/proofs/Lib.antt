@@ -1,0 +1,5 @@
+pub mod Looking
+pub mod Placing
+pub mod Turning
+pub mod Faults
+pub mod Once
