@@ -1,5 +1,6 @@
 //! The demonstration: a bundle of two deliveries and a work file, from opening to refusals.
 
+use crate::machine;
 use bundles::Bundle;
 use bundles::BundleStore;
 use console::RefusalLine;
@@ -41,7 +42,15 @@ pub fn run(rt: &LibcRuntime, heap: Global) -> Result<(), AnyError> {
     namesakes(rt, heap)?;
     refusals(rt, heap)?;
     damaged(rt, heap)?;
-    work_file(rt, heap)
+    work_file(rt, heap)?;
+    list_machine(rt, heap)
+}
+
+fn list_machine(rt: &LibcRuntime, heap: Global) -> Result<(), AnyError> {
+    rt.println("the list machine with 3 frames, each key borrowed and returned:")?;
+    machine::sample(rt, heap, 3, "1 2 3 1 4 2 5 1 4")?;
+    rt.println("with 2 frames, 1 and 2 kept, then 2 returned:")?;
+    machine::sample(rt, heap, 2, "1+ 2+ 3 -2 3")
 }
 
 fn sections(rt: &LibcRuntime, heap: Global) -> Result<(), AnyError> {

@@ -126,35 +126,53 @@ fn give_back<K: Key + Copy>(plain: &mut Plain<K>, key: K) -> bool {
     }
 }
 
-// Does what the word asks for, and says what came of it.
-fn play_word<K: Key + Copy + Display + Readable>(heap: Global, plain: &mut Plain<K>, word: &str) -> Result<String, AllocError> {
+// Does what the word asks for and prints what came of it; the answer is no where the word could not be taken.
+fn play_word<K: Key + Copy + Display + Readable>(rt: &LibcRuntime, heap: Global, plain: &mut Plain<K>, word: &str) -> Result<bool, AnyError> {
     let (deed, rest) = read_word(word);
     let Some(key) = K::from_word(rest) else {
-        return format!(heap, "{word} => error: {rest} is not a key of this kind");
+        println!(rt, "{word} => error: {rest} is not a key of this kind")?;
+        return Ok(false);
     };
     let answer = match deed {
         Deed::Once => borrow(heap, plain, key, false)?,
         Deed::Keep => borrow(heap, plain, key, true)?,
         Deed::Back => {
             if !give_back(plain, key) {
-                return format!(heap, "{word} => error: there is no loan of {key}");
+                println!(rt, "{word} => error: there is no loan of {key}")?;
+                return Ok(false);
             }
             String::from_str(heap, "returned")?
         }
     };
     let ring = ring_text(heap, plain)?;
-    format!(heap, "{word} => {answer}, ring{ring}")
+    println!(rt, "{word} => {answer}, ring{ring}")?;
+    Ok(true)
+}
+
+fn open<K: Key + Copy>(heap: Global, frames: u32) -> Result<Plain<K>, AnyError> {
+    match Plain::<K>::open(heap, frames) {
+        Ok(plain) => Ok(plain),
+        Err(OpenError::FrameCount) => Err("the number of frames is not from 2 to 4096".into()),
+        Err(OpenError::Memory) => Err("there is no memory for so many frames".into()),
+    }
 }
 
 fn play<K: Key + Copy + Display + Readable + Drop>(rt: &LibcRuntime, heap: Global, frames: u32, words: &[String]) -> Result<(), AnyError> {
-    let mut plain = match Plain::<K>::open(heap, frames) {
-        Ok(plain) => plain,
-        Err(OpenError::FrameCount) => return Err("the number of frames is not from 2 to 4096".into()),
-        Err(OpenError::Memory) => return Err("there is no memory for so many frames".into()),
-    };
+    let mut plain = open::<K>(heap, frames)?;
+    let mut all = true;
     for word in words {
-        let line = play_word(heap, &mut plain, word.as_str())?;
-        rt.println(line.as_str())?;
+        if !play_word(rt, heap, &mut plain, word.as_str())? {
+            all = false;
+        }
+    }
+    if all { Ok(()) } else { Err("not every word could be taken".into()) }
+}
+
+// The same words that a caller could give, for the demonstration.
+pub fn sample(rt: &LibcRuntime, heap: Global, frames: u32, words: &str) -> Result<(), AnyError> {
+    let mut plain = open::<PageNo>(heap, frames)?;
+    for word in words.split(' ') {
+        play_word(rt, heap, &mut plain, word)?;
     }
     Ok(())
 }
