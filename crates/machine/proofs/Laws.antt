@@ -259,15 +259,23 @@ full-eleven m s h = go (ltb (s .used) m) (ltb 0 (count idle (s .ring))) refl ref
     go false true i j h = let z : _≡_ {A = ℕ} 0 1 = cc in absurd (omega arith)
     go false false i j h = let a = ltb-false (s .used) m i in let b = ltb-false 0 (count idle (s .ring)) j in (a, omega arith)
 
-pub eleven-only : (m : ℕ) (k : List ℕ) (s : Machine) → Well m s → refusal m k s ≡ Some 11 → (s .used ≡ m) × (count idle (s .ring) ≡ 0)
-eleven-only m k s w h = let a = at (first (named k) (s .ring)) h in let b = w .mid .frames-fit in (omega arith, a .1)
+pub eleven-only : (m : ℕ) (k : List ℕ) (s : Machine) → Well m s → refusal m k s ≡ Some 11 →
+    (s .used ≡ m) × (count idle (s .ring) ≡ 0) × ((e : Entry) → first (named k) (s .ring) ≡ Some e → resident e ≡ false)
+eleven-only m k s w h = let a = at (first (named k) (s .ring)) h in let b = w .mid .frames-fit in (omega arith, a .1, λ e j. away e (rw j at h))
   where
-    ten : (b : Bool) → cond {A = Option ℕ} b None (Some 10) ≡ Some 11 → (m ≤ s .used) × (count idle (s .ring) ≡ 0)
-    ten true h = let z : _≡_ {A = ℕ} 0 1 = cc in absurd (omega arith)
-    ten false h = let z : _≡_ {A = ℕ} 10 11 = cc in absurd (omega arith)
+    not-ten : {A : Type 0} (b : Bool) → cond {A = Option ℕ} b None (Some 10) ≡ Some 11 → A
+    not-ten true h = none-some None 11 refl h
+    not-ten false h = let z : _≡_ {A = ℕ} 10 11 = cc in absurd (omega arith)
+
+    away : (e : Entry) → refusalAt m s (Some e) ≡ Some 11 → resident e ≡ false
+    away e h = which (resident e) (ltb (e .loans) 255) h
+      where
+        which : (b c : Bool) → cond {A = Option ℕ} b (cond c None (Some 10)) (full m s) ≡ Some 11 → b ≡ false
+        which true c h = not-ten c h
+        which false c h = refl
 
     or : (b c : Bool) → cond {A = Option ℕ} b (cond c None (Some 10)) (full m s) ≡ Some 11 → (m ≤ s .used) × (count idle (s .ring) ≡ 0)
-    or true c h = ten c h
+    or true c h = not-ten c h
     or false c h = full-eleven m s h
 
     at : (o : Option Entry) → refusalAt m s o ≡ Some 11 → (m ≤ s .used) × (count idle (s .ring) ≡ 0)

@@ -53,18 +53,18 @@ refusalAt m s (Some e) = cond (resident e) (cond (ltb (e .loans) 255) None (Some
 abbrev pub refusal : ℕ → List ℕ → Machine → Option ℕ
 refusal m k s = refusalAt m s (first (named k) (s .ring))
 
--- A hit: the bit is set, and there is one loan more.
+-- B1, a hit: the bit is set, and there is one loan more.
 abbrev pub lent : Entry → Entry
 lent e = record { key = e .key; hot = e .hot; frame = e .frame; test = e .test; bit = true; loans = e .loans + 1; altered = e .altered }
 
 abbrev pub hit : List ℕ → Machine → Machine
 hit k s = record { ring = replaced (named k) (λ e. lent e ∷ []) (s .ring); cold = s .cold; used = s .used }
 
--- A test fault takes the remembered entry out and raises c, before any hand moves.
+-- B2, a test fault takes the remembered entry out and raises c, before any hand moves.
 abbrev pub recalled : ℕ → List ℕ → Machine → Machine
 recalled m k s = record { ring = without (named k) (s .ring); cold = raised m (s .cold); used = s .used }
 
--- The new entry of a page that was read into frame f: unaltered, its bit clear, with one loan. After a test fault it is
+-- B5, the new entry of a page that was read into frame f: unaltered, its bit clear, with one loan. After a test fault it is
 -- hot (h is true), after a cold fault it is cold with the test mark. It stands at the head.
 abbrev pub entered : List ℕ → Bool → ℕ → Entry
 entered k h f = record { key = k; hot = h; frame = Some f; test = not h; bit = false; loans = 1; altered = false }
@@ -76,7 +76,7 @@ enter k h f s = record { ring = s .ring ++ (entered k h f ∷ []); cold = s .col
 abbrev pub grown : Machine → Machine
 grown s = record { ring = s .ring; cold = s .cold; used = s .used + 1 }
 
--- The frame for a fault in state s: frame u, and u grows by 1, where u < m; otherwise the one that a cold run frees.
+-- B4, the frame for a fault in state s: frame u, and u grows by 1, where u < m; otherwise the one that a cold run frees.
 -- With it come the victim, if there is one, the steps, and the state that the page enters.
 pub data Room (m : ℕ) : Machine → ℕ → Option Entry → Steps → Machine → Type 0 where
   unused : {s : Machine} → ltb (s .used) m ≡ true → Room m s (s .used) None (steps 0 0 0) (grown s)
@@ -103,7 +103,7 @@ pub data Borrow (m : ℕ) (k : List ℕ) : Machine → Answer → Machine → Ty
       Room m (recalled m k s) f v n r →
       HotRun m (enter k true f r) h t →
       Borrow m k s (granted f (record { outcome = a-test-fault; victim = keyOf v; made = plus n (steps 0 h 0); cold = t .cold })) t
-  -- the key is outside the list: a frame is found, and the page enters cold with the test mark
+  -- B3, the key is outside the list: a frame is found, and the page enters cold with the test mark
   cold-faults : {s r : Machine} {f : ℕ} {v : Option Entry} {n : Steps} →
       refusal m k s ≡ None → first (named k) (s .ring) ≡ None →
       Room m s f v n r →

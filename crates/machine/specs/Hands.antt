@@ -56,10 +56,10 @@ evicted e = record { key = e .key; hot = false; frame = None; test = true; bit =
 -- The hot step looks at the entry at the tail. It is asked: is it hot, is its bit set, is it resident? The entry leaves
 -- the tail, and this stands at the head in its stead:
 abbrev pub turnedBy : Entry → Bool → Bool → Bool → List Entry
-turnedBy e true true r = cleared e ∷ []  -- hot with its bit set: the bit is cleared
-turnedBy e true false r = cooled e ∷ []  -- hot with its bit clear: it becomes cold without a test mark
-turnedBy e false b true = unmarked e ∷ []  -- resident cold: if it had the test mark, it loses it
-turnedBy e false b false = []  -- remembered: it is removed
+turnedBy e true true r = cleared e ∷ []  -- H1, hot with its bit set: the bit is cleared
+turnedBy e true false r = cooled e ∷ []  -- H2, hot with its bit clear: it becomes cold without a test mark
+turnedBy e false b true = unmarked e ∷ []  -- H3, resident cold: if it had the test mark, it loses it
+turnedBy e false b false = []  -- H4, remembered: it is removed
 
 abbrev pub turned : Entry → List Entry
 turned e = turnedBy e (e .hot) (e .bit) (resident e)
@@ -85,8 +85,8 @@ hotCold (e ∷ rest) c = turnedCold e c
 abbrev pub hotStep : Machine → Machine
 hotStep s = record { ring = hotRing (s .ring); cold = hotCold (s .ring) (s .cold); used = s .used }
 
--- The test step takes the first entry with the test mark: the mark goes, and c is lowered. A resident entry keeps its
--- place, a remembered one is removed. (A run makes this step only where some entry has the mark: every remembered one has.)
+-- The test step takes the first entry with the test mark: the mark goes, and c is lowered. T1, a remembered entry is
+-- removed; T2, a resident one keeps its place. (A run makes this step only where some entry has the mark: every remembered one has.)
 abbrev pub tested : Entry → List Entry
 tested e = cond (resident e) (unmarked e ∷ []) []
 
@@ -94,15 +94,15 @@ abbrev pub testStep : Machine → Machine
 testStep s = record { ring = replaced marked tested (s .ring); cold = lowered (s .cold); used = s .used }
 
 -- The cold step looks at the candidate e, the first free entry. Its three ways; the runs that follow are in ColdRun.
--- Bit and test mark: it becomes hot, loses both, moves to the head, and c is raised.
+-- C1, bit and test mark: it becomes hot, loses both, moves to the head, and c is raised.
 abbrev pub promote : ℕ → Entry → Machine → Machine
 promote m e s = record { ring = without free (s .ring) ++ (promoted e ∷ []); cold = raised m (s .cold); used = s .used }
 
--- Bit only: the bit is cleared, the test mark is given, and it moves to the head.
+-- C2, bit only: the bit is cleared, the test mark is given, and it moves to the head.
 abbrev pub retest : Entry → Machine → Machine
 retest e s = record { ring = without free (s .ring) ++ (retested e ∷ []); cold = s .cold; used = s .used }
 
--- No bit: it is the victim. With the test mark it stays in its place, remembered; without it the entry is removed.
+-- C3, no bit: it is the victim. With the test mark it stays in its place, remembered; without it the entry is removed.
 abbrev pub left : Entry → List Entry
 left e = cond (e .test) (evicted e ∷ []) []
 

@@ -71,12 +71,13 @@ pub record Standing : Type 0 where
   pub no-new-key : NoNewKey
   pub size : (m : ℕ) (g : Option ℕ) (s : Machine) → Mid m g s → length (s .ring) ≤ 2 * m
 
--- 4. There are two refusals. An 11 is given only where every frame is in use and every resident page has a loan, a 10 only
--- where the key is resident with 255 loans. Where a frame is wanted, none is unused and some resident page has no loan, a
--- cold run finds a victim that has no loan.
+-- 4. There are two refusals. An 11 is given only where every frame is in use, every resident page has a loan and the key
+-- is not resident, a 10 only where the key is resident with 255 loans. Where a frame is wanted, none is unused and some
+-- resident page has no loan, a cold run finds a victim that has no loan.
 pub record Refusals : Type 0 where
   pub two : (m : ℕ) (k : List ℕ) (s : Machine) (n : ℕ) → refusal m k s ≡ Some n → (n ≡ 10) ⊎ (n ≡ 11)
-  pub eleven : (m : ℕ) (k : List ℕ) (s : Machine) → Well m s → refusal m k s ≡ Some 11 → (s .used ≡ m) × (count idle (s .ring) ≡ 0)
+  pub eleven : (m : ℕ) (k : List ℕ) (s : Machine) → Well m s → refusal m k s ≡ Some 11 →
+      (s .used ≡ m) × (count idle (s .ring) ≡ 0) × ((e : Entry) → first (named k) (s .ring) ≡ Some e → resident e ≡ false)
   pub ten : (m : ℕ) (k : List ℕ) (s : Machine) → Well m s → refusal m k s ≡ Some 10 →
       (e : Entry) × (first (named k) (s .ring) ≡ Some e) × (resident e ≡ true) × (e .loans ≡ 255)
   pub found : (m : ℕ) (s : Machine) → Mid m None s → 1 ≤ count idle (s .ring) →

@@ -21,9 +21,9 @@ use Rattle.machine.proofs.Moves.{moved-place}
 use Rattle.machine.proofs.Calls.{Fair, Roomed, room-roomed, enter-mid, fault-fair, recall-fair, recalled-eased}
 use Rattle.machine.proofs.Loops.{work-small, hot-run-small}
 use Rattle.plain.specs.declared.hands.State.{State}
-use Rattle.plain.specs.Reading.{entryOf}
-use Rattle.plain.specs.Model.{machineOf}
-use Rattle.plain.specs.Answering.{Away, recalledIf}
+use Rattle.plain.specs.Entries.{entryOf}
+use Rattle.plain.specs.Hands.{machineOf}
+use Rattle.plain.specs.Calls.{Away, recalledIf}
 
 -- a place is left for the page that is to enter
 room-fits : (m : ℕ) (s : Machine) (f : ℕ) (v : Option model.Entry) (n : Steps) (r : Machine) → Roomed m s f v n r → length (r .ring) < 2 * m

@@ -7,7 +7,7 @@ use native.Mathlib.Omega.{arith}
 use lib.ListN.{length, take, drop, getD}
 use Rattle.std.proofs.shelf.Lists.{drop-more, drop-all}
 use Rattle.machine.specs.Entry.{Entry, one, count}
-use Rattle.plain.specs.Reading.{place}
+use Rattle.plain.specs.Entries.{place}
 
 module _ {X : Type 0} (g : X → Entry) (p : Entry → Bool) (xs : List X) (i : ℕ) where
   at-more : {Y : Type 0} (F : List Entry → Y) (x : X) → i < length xs → x ≡ getD xs i x → F (map g (drop i xs)) ≡ F (g x ∷ map g (drop (i + 1) xs))

@@ -16,8 +16,8 @@ use Rattle.machine.specs.Hands.{Machine}
 use Rattle.machine.specs.Facts.{Proper, Mid}
 use Rattle.plain.specs.declared.entries.Entry.{Entry}
 use Rattle.plain.specs.declared.hands.State.{State}
-use Rattle.plain.specs.Reading.{entryOf, entriesOf}
-use Rattle.plain.specs.Model.{machineOf}
+use Rattle.plain.specs.Entries.{entryOf, entriesOf}
+use Rattle.plain.specs.Hands.{machineOf}
 
 proper-once : (e : model.Entry) → IsProp (Proper e)
 proper-once e x y = λ i. record {

@@ -13,8 +13,8 @@ use Rattle.machine.specs.Entry as model
 use Rattle.machine.specs.Hands.{Machine, turned, turnedCold, hotRing, hotCold, hotStep}
 use Rattle.plain.specs.declared.entries.Entry.{Entry}
 use Rattle.plain.specs.declared.entries.Question.{Question}
-use Rattle.plain.specs.Reading.{entryOf, entriesOf, listed, asks, place}
-use Rattle.plain.specs.Finding.{Found}
+use Rattle.plain.specs.Entries.{entryOf, entriesOf, listed, asks, place}
+use Rattle.plain.specs.Lists.{Found}
 
 module _ {X : Type 0} (g : X → model.Entry) (p : model.Entry → Bool) where
   pub place-le : (xs : List X) → place p (map g xs) ≤ length xs

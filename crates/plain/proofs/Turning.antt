@@ -12,7 +12,7 @@ use Rattle.machine.proofs.Eased.{promote-eased}
 use Rattle.machine.proofs.Runs.{hot-run-work}
 use Rattle.machine.proofs.Cold.{idle-hot}
 use Rattle.machine.proofs.Loops.{ColdLoop, cold-turns-hot, cold-promotes, cold-retests, cold-done}
-use Rattle.plain.specs.Model.{TurnsOn, by-hot-step, by-promotion, by-retest, TurnsOut, by-eviction}
+use Rattle.plain.specs.Hands.{TurnsOn, by-hot-step, by-promotion, by-retest, TurnsOut, by-eviction}
 
 -- a turn keeps what is kept from turn to turn
 pub turn-kept : (m : ℕ) (s : Machine) (a b : ℕ) {x : Machine} {c h : ℕ} {y : Machine} → ColdLoop m s (steps a b 0) x → TurnsOn m x c h y → ColdLoop m s (steps (a + c) (b + h) 0) y

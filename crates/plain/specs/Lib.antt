@@ -1,6 +1,6 @@
-pub mod Reading
-pub mod Finding
-pub mod Model
-pub mod Answering
-pub mod Showing
-pub mod Opening
+pub mod Entries
+pub mod Lists
+pub mod Hands
+pub mod Calls
+pub mod Show
+pub mod Simulator

@@ -5,7 +5,7 @@ ghost use Prim.Native.Nat.{_<_};
 ghost use Rattle.machine.specs.Hands.{turned, turnedCold, tested, left, promoted, retested, lowered, raised};
 ghost use Rattle.machine.specs.Borrow.{entered, lent, repaid, marking};
 ghost use Rattle.machine.specs.Entry.{idle, liesIn};
-ghost use Rattle.plain.specs.Reading.{entryOf, asks, listed};
+ghost use Rattle.plain.specs.Entries.{entryOf, asks, listed};
 use keys::FrameNo;
 use keys::Key;
 

@@ -10,10 +10,10 @@ ghost use lib.Dec.{ltb};
 ghost use Rattle.std.specs.Of.Vec.{vec-items};
 ghost use Rattle.machine.specs.Entry.{first, named};
 ghost use Rattle.machine.specs.Borrow as rules;
-ghost use Rattle.plain.specs.Reading.{frameOf};
-ghost use Rattle.plain.specs.Model.{machineOf};
-ghost use Rattle.plain.specs.Answering.{answerOf};
-ghost use Rattle.plain.specs.Opening.{Opens, heldIn};
+ghost use Rattle.plain.specs.Entries.{frameOf};
+ghost use Rattle.plain.specs.Hands.{machineOf};
+ghost use Rattle.plain.specs.Calls.{answerOf};
+ghost use Rattle.plain.specs.Simulator.{Opens, heldIn};
 
 pub mod calls;
 pub mod entries;

@@ -4,8 +4,8 @@
 ghost use mathlib.Core.Path.{_≡_};
 ghost use Rattle.std.specs.declared.option.Option.the-variants.{Some};
 ghost use Rattle.machine.specs.Rows.{seen};
-ghost use Rattle.plain.specs.Reading.{entryOf};
-ghost use Rattle.plain.specs.Showing.{seenOf, spelled};
+ghost use Rattle.plain.specs.Entries.{entryOf};
+ghost use Rattle.plain.specs.Show.{seenOf, spelled};
 use crate::entries::Entry;
 use keys::Key;
 use std::fmt;

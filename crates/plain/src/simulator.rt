@@ -5,7 +5,7 @@ ghost use Prim.Native.Nat.{_*_, _≤_};
 ghost use Rattle.std.specs.declared.option.Option.the-variants.{None};
 ghost use Rattle.std.specs.Of.Vec.{vec-cap};
 ghost use Rattle.machine.specs.Facts.{Mid};
-ghost use Rattle.plain.specs.Model.{machineOf};
+ghost use Rattle.plain.specs.Hands.{machineOf};
 use crate::hands::State;
 
 /// A simulator: its state, and the number of frames. The machine's facts about marks, frames and numbers hold of every

@@ -3,7 +3,7 @@ use mathlib.Core.Bool.{true, false}
 use native.Mathlib.Omega.{arith}
 use Prim.Native.Nat.{_≤_, _<_}
 use lib.ListN.{length}
-use Rattle.plain.specs.Reading.{entryOf, asks}
+use Rattle.plain.specs.Entries.{entryOf, asks}
 use Rattle.plain.proofs.Looking.{place-more, place-here, place-end}
 use Rattle.plain.proofs.lists.position.Needs as need
 

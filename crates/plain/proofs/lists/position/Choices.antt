@@ -2,7 +2,7 @@ use Prim.Native.Nat.{_+_, _-_, _≤_}
 use mathlib.Core.Path.{_≡_}
 use lib.ListN.{drop}
 use Rattle.std.specs.Of.Vec.{vec-items, vec-len}
-use Rattle.plain.specs.Reading.{entriesOf, asks, place}
+use Rattle.plain.specs.Entries.{entriesOf, asks, place}
 use Rattle.plain.proofs.lists.position.Given as given
 
 -- what was passed over, and what is left to look through

@@ -4,7 +4,7 @@ use native.Mathlib.Omega.{arith}
 use Prim.Native.Nat.{_≤_, _<_}
 use lib.ListN.{length}
 use Rattle.machine.specs.Entry.{one}
-use Rattle.plain.specs.Reading.{entryOf, asks}
+use Rattle.plain.specs.Entries.{entryOf, asks}
 use Rattle.plain.proofs.Looking.{count-more, count-end}
 use Rattle.plain.proofs.lists.tally.Needs as need
 use Rattle.plain.proofs.lists.tally.Needs.{then-passes, else-passes}

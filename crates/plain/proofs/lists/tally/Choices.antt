@@ -3,7 +3,7 @@ use mathlib.Core.Path.{_≡_}
 use lib.ListN.{drop}
 use Rattle.std.specs.Of.Vec.{vec-items, vec-len}
 use Rattle.machine.specs.Entry.{count}
-use Rattle.plain.specs.Reading.{entriesOf, asks}
+use Rattle.plain.specs.Entries.{entriesOf, asks}
 use Rattle.plain.proofs.lists.tally.Given as given
 
 -- what was counted, and what is left to count

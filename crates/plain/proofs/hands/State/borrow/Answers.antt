@@ -9,8 +9,8 @@ use Rattle.machine.specs.Borrow.{refuses}
 use Rattle.machine.specs.Facts.{Proper}
 use Rattle.machine.proofs.Counts.{first-has}
 use Rattle.plain.specs.declared.entries.Question.the-variants.{Named}
-use Rattle.plain.specs.Reading.{entryOf, frameOf}
-use Rattle.plain.specs.Model.{machineOf}
+use Rattle.plain.specs.Entries.{entryOf, frameOf}
+use Rattle.plain.specs.Hands.{machineOf}
 use Rattle.plain.proofs.Placing.{found-first}
 use Rattle.plain.proofs.Faults.{away-outside, away-remembered, refusal-outside, refusal-remembered, refusal-resident, hit-answer}
 use Rattle.plain.proofs.hands.State.borrow.Needs as need

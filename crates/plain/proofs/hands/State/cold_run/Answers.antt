@@ -3,7 +3,7 @@ use Prim.Native.Nat.{_+_}
 use native.Mathlib.Omega.{arith}
 use Rattle.machine.specs.Hands.{steps}
 use Rattle.machine.proofs.Loops.{ColdLoop, cold-begins, cold-small}
-use Rattle.plain.specs.Model.{machineOf}
+use Rattle.plain.specs.Hands.{machineOf}
 use Rattle.plain.proofs.Turning.{turn-kept, turn-falls, turn-steps, turn-out}
 use Rattle.plain.proofs.hands.State.cold_run.Needs as need
 

@@ -3,7 +3,7 @@ use Rattle.std.specs.Of.Vec.{vec-cap}
 use Rattle.machine.specs.Hands.{steps}
 use Rattle.machine.proofs.Work.{work}
 use Rattle.machine.proofs.Loops.{ColdLoop}
-use Rattle.plain.specs.Model.{machineOf}
+use Rattle.plain.specs.Hands.{machineOf}
 use Rattle.plain.proofs.hands.State.cold_run.Given as given
 
 abbrev pub Inv-loop-c : given.InvT-loop-c

@@ -8,8 +8,8 @@ use Rattle.machine.proofs.Counts.{first-passes}
 use Rattle.machine.proofs.Eased.{promote-eased, free-resident}
 use Rattle.machine.proofs.Cold.{has-frame, evict-mid}
 use Rattle.plain.specs.declared.entries.Question.the-variants.{Free}
-use Rattle.plain.specs.Reading.{entryOf}
-use Rattle.plain.specs.Model.{machineOf, TurnsOn, by-hot-step, by-promotion, by-retest, by-eviction}
+use Rattle.plain.specs.Entries.{entryOf}
+use Rattle.plain.specs.Hands.{machineOf, TurnsOn, by-hot-step, by-promotion, by-retest, by-eviction}
 use Rattle.plain.proofs.Placing.{found-first}
 use Rattle.plain.proofs.hands.State.cold_turn.Needs as need
 

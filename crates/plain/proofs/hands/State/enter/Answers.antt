@@ -3,7 +3,7 @@ use mathlib.Core.List.{[], _∷_, _++_}
 use Rattle.std.specs.Of.Vec.{vec-items}
 use Rattle.std.proofs.shelf.Lists.{map-append}
 use Rattle.machine.specs.Borrow.{entered}
-use Rattle.plain.specs.Reading.{entryOf, entriesOf}
+use Rattle.plain.specs.Entries.{entryOf, entriesOf}
 use Rattle.plain.proofs.hands.State.enter.Needs as need
 
 pub returns : need.returns

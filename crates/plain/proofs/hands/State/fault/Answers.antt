@@ -7,8 +7,8 @@ use Rattle.std.specs.Of.Vec.{vec-len, vec-cap}
 use Rattle.machine.specs.Borrow.{Room}
 use Rattle.machine.specs.Facts.{Mid}
 use Rattle.machine.proofs.Calls.{Fair}
-use Rattle.plain.specs.Model.{machineOf, stepsOf}
-use Rattle.plain.specs.Answering.{recalledIf}
+use Rattle.plain.specs.Hands.{machineOf, stepsOf}
+use Rattle.plain.specs.Calls.{recalledIf}
 use Rattle.plain.proofs.Faults.{place-left, Ready, ready, ready-roomed, ready-entered, fault-steps, cold-answer, test-answer}
 use Rattle.plain.proofs.hands.State.fault.Needs as need
 

@@ -9,7 +9,7 @@ use Rattle.std.specs.declared.option.Option.the-variants.{Some}
 use Rattle.std.proofs.shelf.Tests.{lt-ltb}
 use Rattle.machine.specs.Borrow.{carries, loansAt, repaid, returned}
 use Rattle.plain.specs.declared.entries.Question.the-variants.{LiesIn}
-use Rattle.plain.specs.Model.{machineOf}
+use Rattle.plain.specs.Hands.{machineOf}
 use Rattle.plain.proofs.Placing.{found-first, found-put}
 use Rattle.plain.proofs.hands.State.give_back.Needs as need
 

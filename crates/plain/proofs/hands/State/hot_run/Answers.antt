@@ -5,7 +5,7 @@ use Rattle.std.specs.declared.option.Option.the-variants.{None}
 use Rattle.machine.specs.Hands.{hotStep}
 use Rattle.machine.proofs.Work.{work}
 use Rattle.machine.proofs.Loops.{HotLoop, hot-begins, hot-turns, hot-falls, hot-done, hot-small}
-use Rattle.plain.specs.Model.{machineOf}
+use Rattle.plain.specs.Hands.{machineOf}
 use Rattle.plain.proofs.hands.State.hot_run.Needs as need
 
 pub add-steps : need.add-steps

@@ -3,7 +3,7 @@ use Rattle.std.specs.declared.option.Option.the-variants.{None}
 use Rattle.std.specs.Of.Vec.{vec-cap}
 use Rattle.machine.proofs.Work.{work}
 use Rattle.machine.proofs.Loops.{HotLoop}
-use Rattle.plain.specs.Model.{machineOf}
+use Rattle.plain.specs.Hands.{machineOf}
 use Rattle.plain.proofs.hands.State.hot_run.Given as given
 
 abbrev pub Inv-loop-self : given.InvT-loop-self

@@ -6,7 +6,7 @@ use lib.ListN.{length}
 use Rattle.std.specs.Of.Vec.{vec-items}
 use Rattle.machine.specs.Hands.{Machine, hotStep}
 use Rattle.plain.specs.declared.entries.Entry.{Entry}
-use Rattle.plain.specs.Reading.{entriesOf}
+use Rattle.plain.specs.Entries.{entriesOf}
 use Rattle.plain.proofs.Placing.{hot-at}
 use Rattle.plain.proofs.hands.State.hot_step.Needs as need
 

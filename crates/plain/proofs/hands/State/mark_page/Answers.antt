@@ -6,7 +6,7 @@ use Rattle.machine.specs.Entry as model
 use Rattle.machine.specs.Borrow.{marking}
 use Rattle.machine.proofs.Laws.{replaced-none}
 use Rattle.plain.specs.declared.entries.Question.the-variants.{LiesIn}
-use Rattle.plain.specs.Reading.{entriesOf}
+use Rattle.plain.specs.Entries.{entriesOf}
 use Rattle.plain.proofs.Placing.{found-put}
 use Rattle.plain.proofs.hands.State.mark_page.Needs as need
 

@@ -3,7 +3,7 @@ use mathlib.Core.List.{[], _∷_}
 use Rattle.std.specs.Of.Vec.{vec-items}
 use Rattle.std.specs.declared.option.Option.the-variants.{Some}
 use Rattle.machine.specs.Hands.{promoted}
-use Rattle.plain.specs.Reading.{entryOf}
+use Rattle.plain.specs.Entries.{entryOf}
 use Rattle.plain.specs.declared.entries.Question.the-variants.{Free}
 use Rattle.plain.proofs.Placing.{found-head}
 use Rattle.plain.proofs.hands.State.promote.Needs as need

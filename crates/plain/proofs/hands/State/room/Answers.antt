@@ -6,7 +6,7 @@ use Rattle.std.proofs.shelf.Tests.{lt-ltb, le-ltb}
 use Rattle.machine.specs.Borrow.{unused, freed}
 use Rattle.machine.proofs.Counts.{none-some}
 use Rattle.machine.proofs.Cold.{cold-run-sent}
-use Rattle.plain.specs.Reading.{entryOf, frameOf}
+use Rattle.plain.specs.Entries.{entryOf, frameOf}
 use Rattle.plain.proofs.hands.State.room.Needs as need
 
 pub returns-then-self-m : need.returns-then-self-m

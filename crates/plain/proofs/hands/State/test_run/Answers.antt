@@ -2,7 +2,7 @@ use mathlib.Core.Path.{_≡_, refl, sym, subst, _∙_}
 use native.Mathlib.Omega.{arith}
 use Prim.Native.Nat.{suc, _+_, _≤_}
 use Rattle.machine.proofs.Loops.{TestLoop, weight, test-begins, test-turns, test-falls, test-done, test-small}
-use Rattle.plain.specs.Model.{machineOf}
+use Rattle.plain.specs.Hands.{machineOf}
 use Rattle.plain.proofs.hands.State.test_run.Needs as need
 
 pub add-steps : need.add-steps

@@ -3,7 +3,7 @@ use Prim.Native.Nat.{ℕ}
 use Rattle.std.specs.declared.option.Option.{Option}
 use Rattle.std.specs.Of.Vec.{vec-cap}
 use Rattle.machine.proofs.Loops.{TestLoop, weight}
-use Rattle.plain.specs.Model.{machineOf}
+use Rattle.plain.specs.Hands.{machineOf}
 use Rattle.plain.proofs.hands.State.test_run.Given as given
 
 abbrev pub Inv-loop-self : given.InvT-loop-self

@@ -4,7 +4,7 @@ use Rattle.machine.specs.Hands.{tested}
 use Rattle.machine.specs.Entry as model
 use Rattle.machine.proofs.Laws.{replaced-none}
 use Rattle.plain.specs.declared.entries.Question.the-variants.{Marked}
-use Rattle.plain.specs.Reading.{entriesOf}
+use Rattle.plain.specs.Entries.{entriesOf}
 use Rattle.plain.proofs.Placing.{found-put}
 use Rattle.plain.proofs.hands.State.test_step.Needs as need
 

@@ -1,7 +1,7 @@
 use mathlib.Core.Path.{sym, ap}
 use Rattle.std.specs.Of.Vec.{vec-items}
 use Rattle.plain.specs.declared.entries.Question.the-variants.{Named}
-use Rattle.plain.specs.Opening.{heldIn}
+use Rattle.plain.specs.Simulator.{heldIn}
 use Rattle.plain.proofs.Placing.{found-first}
 use Rattle.plain.proofs.simulator.Plain.frame_of.Needs as need
 

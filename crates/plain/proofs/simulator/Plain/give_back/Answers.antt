@@ -3,7 +3,7 @@ use Prim.Native.Nat.{_*_, _≤_}
 use Rattle.std.specs.declared.option.Option.the-variants.{None}
 use Rattle.machine.specs.Facts.{Mid}
 use Rattle.machine.proofs.Laws.{return-mid}
-use Rattle.plain.specs.Model.{machineOf}
+use Rattle.plain.specs.Hands.{machineOf}
 use Rattle.plain.proofs.Once.{opened-facts, closed-facts}
 use Rattle.plain.proofs.simulator.Plain.give_back.Needs as need
 

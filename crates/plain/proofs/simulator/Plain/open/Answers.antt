@@ -4,7 +4,7 @@ use Prim.Native.Nat.{_-_}
 use Rattle.std.specs.declared.option.Option.the-variants.{None}
 use Rattle.machine.specs.Facts.{Mid}
 use Rattle.machine.proofs.Calls.{opened-well}
-use Rattle.plain.specs.Reading.{entriesOf}
+use Rattle.plain.specs.Entries.{entriesOf}
 use Rattle.plain.proofs.Once.{closed-facts}
 use Rattle.plain.proofs.simulator.Plain.open.Needs as need
 

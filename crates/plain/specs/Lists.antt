@@ -11,7 +11,7 @@ use Rattle.machine.specs.Entry as model
 use Rattle.plain.specs.declared.entries.Entry.{Entry}
 use Rattle.plain.specs.declared.entries.Question.{Question}
 use Rattle.plain.specs.declared.lists.Spot.{Spot}
-use Rattle.plain.specs.Reading.{entriesOf, asks, place}
+use Rattle.plain.specs.Entries.{entriesOf, asks, place}
 
 pub record Found {K : Type 0} (meaning : K → List ℕ) (question : Question K) (es : List (Entry K)) (at : ℕ) (e : Entry K) : Type 0 where
   pub first : at ≡ place (asks meaning question) (entriesOf meaning es)

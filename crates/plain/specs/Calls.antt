@@ -20,7 +20,7 @@ use Rattle.plain.specs.declared.calls.Report.{Report}
 use Rattle.plain.specs.declared.calls.Granted.{Granted}
 use Rattle.plain.specs.declared.calls.Refusal.{Refusal}
 use Rattle.plain.specs.declared.calls.Refusal.the-variants.{TooManyLoans, NoFrame}
-use Rattle.plain.specs.Model.{stepsOf, keyed}
+use Rattle.plain.specs.Hands.{stepsOf, keyed}
 
 abbrev pub outcomeOf : Outcome → rules.Outcome
 outcomeOf Hit = rules.a-hit

@@ -21,7 +21,7 @@ use Rattle.plain.specs.declared.hands.Steps.{Steps}
 use Rattle.plain.specs.declared.hands.Turn.{Turn}
 use Rattle.plain.specs.declared.hands.Turn.the-variants.{On, Out}
 use Rattle.plain.specs.declared.hands.Room.{Room}
-use Rattle.plain.specs.Reading.{entryOf, entriesOf}
+use Rattle.plain.specs.Entries.{entryOf, entriesOf}
 
 abbrev pub machineOf : {K : Type 0} → (K → List ℕ) → State K → Machine
 machineOf meaning s = record { ring = entriesOf meaning (vec-items (s .ring)); cold = s .cold; used = s .used }

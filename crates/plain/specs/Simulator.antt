@@ -16,7 +16,7 @@ use Rattle.machine.specs.Hands.{opened}
 use Rattle.plain.specs.declared.simulator.Plain.{Plain}
 use Rattle.plain.specs.declared.OpenError.{OpenError}
 use Rattle.plain.specs.declared.OpenError.the-variants.{FrameCount, Memory}
-use Rattle.plain.specs.Model.{machineOf}
+use Rattle.plain.specs.Hands.{machineOf}
 
 abbrev pub fair : ℕ → Bool
 fair m = leb 2 m && leb m 4096
