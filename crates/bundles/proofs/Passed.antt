@@ -43,7 +43,7 @@ other true c h = let z : _≡_ {A = ℕ} 0 1 = cc in absurd (omega arith)
 
 pub unlisted-more : (d : ℕ) (part : List ℕ) (n i : ℕ) → i < n → (rowAt part i .delivery ≡ d → ⊥) → Unlisted d part n i → Unlisted d part n (i + 1)
 unlisted-more d part n i h x u = record {
-  same = u .same ∙ ap (listedIn d) (rows-more part i n h) ∙ other (eqb (rowAt part i .delivery) d) (listedIn d (rowsFrom part (i + 1) n)) (ne-eqb (rowAt part i .delivery) d x)
+  same = u .same ∙ ap (listedIn d) (rows-more part i n h) ∙ other (eqb (rowAt part i .delivery) d) (listedIn d (rowsFrom part (i + 1) n)) (ne-eqb (rowAt part i .delivery) d x);
 }
 
 pub listed-here : (d : ℕ) (part : List ℕ) (n i : ℕ) → i < n → rowAt part i .delivery ≡ d → Unlisted d part n i → listedIn d (rowsIn part n) ≡ true
@@ -81,10 +81,10 @@ good-few before r h =
 pub added-more : (part : List ℕ) (n i sum : ℕ) → i < n → goodRow (rowsIn part i) (rowAt part i) ≡ true → Added part n i sum → Added part n (i + 1) (sum + rowAt part i .pages)
 added-more part n i sum h k x = record {
   good = x .good ∙ ap (goodAfter (rowsIn part i)) (rows-more part i n h)
-    ∙ ahead (goodRow (rowsIn part i) (rowAt part i)) (goodAfter (rowsIn part i ++ (rowAt part i ∷ [])) (rowsFrom part (i + 1) n)) k
-    ∙ ap (λ rows. goodAfter rows (rowsFrom part (i + 1) n)) (sym (rows-push part i));
+      ∙ ahead (goodRow (rowsIn part i) (rowAt part i)) (goodAfter (rowsIn part i ++ (rowAt part i ∷ [])) (rowsFrom part (i + 1) n)) k
+      ∙ ap (λ rows. goodAfter rows (rowsFrom part (i + 1) n)) (sym (rows-push part i));
   total = ap (λ s. s + rowAt part i .pages) (x .total) ∙ sym (pages-push (rowsIn part i) (rowAt part i)) ∙ ap pagesIn (sym (rows-push part i));
-  small = let s = x .small in let f = good-few (rowsIn part i) (rowAt part i) k in omega arith
+  small = let s = x .small in let f = good-few (rowsIn part i) (rowAt part i) k in omega arith;
 }
 
 pub added-all : (part : List ℕ) (n i sum : ℕ) → n ≤ i → Added part n i sum → goodRows (rowsIn part n) ≡ true
@@ -109,8 +109,8 @@ pub sought-more : (d : ℕ) (part : List ℕ) (n i before : ℕ) → i < n → (
     Sought d part n i before → Sought d part n (i + 1) (before + rowAt part i .pages)
 sought-more d part n i before h x f s = record {
   same = s .same ∙ ap (found d before) (rows-more part i n h)
-    ∙ cond-false (eqb (rowAt part i .delivery) d) (Some (record { before = before; row = rowAt part i })) (found d (before + rowAt part i .pages) (rowsFrom part (i + 1) n)) (ne-eqb (rowAt part i .delivery) d x);
-  small = let k = s .small in omega arith
+      ∙ cond-false (eqb (rowAt part i .delivery) d) (Some (record { before = before; row = rowAt part i })) (found d (before + rowAt part i .pages) (rowsFrom part (i + 1) n)) (ne-eqb (rowAt part i .delivery) d x);
+  small = let k = s .small in omega arith;
 }
 
 pub sought-here : (d : ℕ) (part : List ℕ) (n i before : ℕ) → i < n → rowAt part i .delivery ≡ d → Sought d part n i before →

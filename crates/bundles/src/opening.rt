@@ -17,6 +17,7 @@ use crate::rows::two_bytes;
 use stores::StoreFault;
 
 const LARGEST_PAGE: usize = 4096;
+
 const MOST_ROWS: usize = 256;
 
 // The count of rows, if count and rows are there.
@@ -36,7 +37,12 @@ fn count_rows(bytes: &[u8]) -> Result<usize, StoreFault>
 }
 
 // Where the pages begin, if their count is there, is the sum of the rows, and exactly its pages follow.
-fn find_pages(bytes: &[u8], row_count: usize, sum: u32, page_size: usize) -> Result<usize, StoreFault>
+fn find_pages(
+    bytes: &[u8],
+    row_count: usize,
+    sum: u32,
+    page_size: usize,
+) -> Result<usize, StoreFault>
     requires { ⌜ «row_count» ≡ rowCount (now bytes) ⌝ ∗ ⌜ «row_count» ≤ 256 ⌝ ∗ ⌜ sum ≡ pagesIn (rowsOf (now bytes)) ⌝ ∗ ⌜ sum ≤ 268435456 ⌝ ∗ ⌜ «page_size» ≤ 4096 ⌝ }
     ensures { λ r. ⌜ Cases r
         (λ at. (havePages «page_size» (now (bytes .entry)) ≡ true) × (at ≡ 6 + 7 * «row_count») × (length (now (bytes .entry)) ≡ at + sum * «page_size»))
@@ -77,6 +83,11 @@ impl<'a> Bundle<'a> {
         let end = 2 + 7 * row_count;
         let rows = &bytes[2..end];
         let pages = &bytes[end + 4..];
-        Bundle { rows, pages, row_count, page_size }
+        Bundle {
+            rows,
+            pages,
+            row_count,
+            page_size,
+        }
     }
 }

@@ -47,7 +47,11 @@ pub struct Delivery {
 fn unit_numbered(n: u8) -> AmountUnit
     ensures { λ r. ⌜ r ≡ unitOf n ⌝ }
 {
-    if n == 0 { AmountUnit::Whole } else { AmountUnit::Thousands }
+    if n == 0 {
+        AmountUnit::Whole
+    } else {
+        AmountUnit::Thousands
+    }
 }
 
 impl Bundle<'_> {
@@ -104,7 +108,11 @@ impl Bundle<'_> {
             return None;
         }
         let row = row_at(self.rows, i);
-        Some(Delivery { number: row.delivery, unit: unit_numbered(row.unit), pages: row.pages })
+        Some(Delivery {
+            number: row.delivery,
+            unit: unit_numbered(row.unit),
+            pages: row.pages,
+        })
     }
 
     /// The unit of a delivery's amounts.

@@ -56,7 +56,11 @@ pub(crate) fn row_at(rows: &[u8], i: usize) -> RowRecord
     ensures pages { λ r. ⌜ r .pages ≡ rowAt (now (rows .entry)) i .pages ⌝ }
 {
     let at = ROW_BYTES * i;
-    RowRecord { delivery: DeliveryNo(two_bytes(rows, at)), unit: rows[at + 2], pages: four_bytes(rows, at + 3) }
+    RowRecord {
+        delivery: DeliveryNo(two_bytes(rows, at)),
+        unit: rows[at + 2],
+        pages: four_bytes(rows, at + 3),
+    }
 }
 
 /// Whether one of the first `n` rows lists the delivery.

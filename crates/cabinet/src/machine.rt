@@ -42,7 +42,10 @@ impl Readable for DeliveryKey as ReadableDeliveryKey {
             return None;
         };
         match (delivery.parse::<u16>(), page.parse::<u32>()) {
-            (Ok(delivery), Ok(page)) => Some(DeliveryKey { delivery: DeliveryNo(delivery), page: PageNo(page) }),
+            (Ok(delivery), Ok(page)) => Some(DeliveryKey {
+                delivery: DeliveryNo(delivery),
+                page: PageNo(page),
+            }),
             _ => None,
         }
     }
@@ -68,7 +71,10 @@ fn read_word(word: &str) -> (Deed, &str) {
 }
 
 // The ring, tail first, as ` 1H 4Ct 2H`.
-fn ring_text<K: Key + Copy + Display>(heap: Global, plain: &Plain<K>) -> Result<String, AllocError> {
+fn ring_text<K: Key + Copy + Display>(
+    heap: Global,
+    plain: &Plain<K>,
+) -> Result<String, AllocError> {
     let mut text = String::new(heap);
     for entry in plain.entries() {
         let key = entry.key;
@@ -88,7 +94,10 @@ fn outcome_text(outcome: Outcome) -> &'static str {
 }
 
 // The report of a granted borrow, as `test fault, victim 3, steps 1 1 0, c 1`.
-fn report_text<K: Copy + Display>(heap: Global, granted: &Granted<K>) -> Result<String, AllocError> {
+fn report_text<K: Copy + Display>(
+    heap: Global,
+    granted: &Granted<K>,
+) -> Result<String, AllocError> {
     let report = granted.report;
     let outcome = outcome_text(report.outcome);
     let victim = match report.victim {
@@ -99,11 +108,19 @@ fn report_text<K: Copy + Display>(heap: Global, granted: &Granted<K>) -> Result<
     let hot = report.steps.hot;
     let test = report.steps.test;
     let c = report.cold;
-    format!(heap, "{outcome}, victim {victim}, steps {cold} {hot} {test}, c {c}")
+    format!(
+        heap,
+        "{outcome}, victim {victim}, steps {cold} {hot} {test}, c {c}"
+    )
 }
 
 // What a borrow answers; its loan is returned unless it is to be kept.
-fn borrow<K: Key + Copy + Display>(heap: Global, plain: &mut Plain<K>, key: K, keep: bool) -> Result<String, AllocError> {
+fn borrow<K: Key + Copy + Display>(
+    heap: Global,
+    plain: &mut Plain<K>,
+    key: K,
+    keep: bool,
+) -> Result<String, AllocError> {
     match plain.borrow(key) {
         Ok(granted) => {
             if !keep {
@@ -127,7 +144,12 @@ fn give_back<K: Key + Copy>(plain: &mut Plain<K>, key: K) -> bool {
 }
 
 // Does what the word asks for and prints what came of it; the answer is no where the word could not be taken.
-fn play_word<K: Key + Copy + Display + Readable>(rt: &LibcRuntime, heap: Global, plain: &mut Plain<K>, word: &str) -> Result<bool, AnyError> {
+fn play_word<K: Key + Copy + Display + Readable>(
+    rt: &LibcRuntime,
+    heap: Global,
+    plain: &mut Plain<K>,
+    word: &str,
+) -> Result<bool, AnyError> {
     let (deed, rest) = read_word(word);
     let Some(key) = K::from_word(rest) else {
         println!(rt, "{word} => error: {rest} is not a key of this kind")?;
@@ -157,7 +179,12 @@ fn open<K: Key + Copy>(heap: Global, frames: u32) -> Result<Plain<K>, AnyError> 
     }
 }
 
-fn play<K: Key + Copy + Display + Readable + Drop>(rt: &LibcRuntime, heap: Global, frames: u32, words: &[String]) -> Result<(), AnyError> {
+fn play<K: Key + Copy + Display + Readable + Drop>(
+    rt: &LibcRuntime,
+    heap: Global,
+    frames: u32,
+    words: &[String],
+) -> Result<(), AnyError> {
     let mut plain = open::<K>(heap, frames)?;
     let mut all = true;
     for word in words {
@@ -165,7 +192,11 @@ fn play<K: Key + Copy + Display + Readable + Drop>(rt: &LibcRuntime, heap: Globa
             all = false;
         }
     }
-    if all { Ok(()) } else { Err("not every word could be taken".into()) }
+    if all {
+        Ok(())
+    } else {
+        Err("not every word could be taken".into())
+    }
 }
 
 // The same words that a caller could give, for the demonstration.

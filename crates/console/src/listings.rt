@@ -73,7 +73,11 @@ fn digit(n: u8) -> char
     ensures value { λ r. ⌜ r ≡ glyph false n ⌝ }
     ensures ascii { λ r. ⌜ r < 128 ⌝ }
 {
-    if n < 10 { (b'0' + n) as char } else { (b'a' + (n - 10)) as char }
+    if n < 10 {
+        (b'0' + n) as char
+    } else {
+        (b'a' + (n - 10)) as char
+    }
 }
 
 // Adds the two digits of a byte.

@@ -13,7 +13,11 @@ use std::alloc::Global;
 use stores::Store;
 
 /// The key's page in hexadecimal, or the line of the refusal; the store stays as it was.
-pub fn page_text<K: Key, S: Store<K>>(heap: Global, store: &mut S, key: &K) -> Result<String, AllocError>
+pub fn page_text<K: Key, S: Store<K>>(
+    heap: Global,
+    store: &mut S,
+    key: &K,
+) -> Result<String, AllocError>
     ensures text { λ r. ⌜ made r (λ s. string-bytes s ≡ pageText (meant (now (store .entry))) (meaning (now (key .entry)))) ⌝ }
     ensures store { λ r. ⌜ meant (now (store .exit)) ≡ meant (now (store .entry)) ⌝ }
 {

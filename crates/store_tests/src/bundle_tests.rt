@@ -21,7 +21,10 @@ use stores::StoreFaultPartialEq;
 const SMALL: [u8; 15] = [1, 0, 7, 0, 1, 2, 0, 0, 0, 2, 0, 0, 0, 0xaa, 0xbb];
 
 fn key(delivery: u16, page: u32) -> DeliveryKey {
-    DeliveryKey { delivery: DeliveryNo(delivery), page: PageNo(page) }
+    DeliveryKey {
+        delivery: DeliveryNo(delivery),
+        page: PageNo(page),
+    }
 }
 
 // The number of a refusal, and 0 for none.

@@ -54,6 +54,7 @@ page-laid p n i new bytes h j = go (eqb n i) refl
   where
     l : length (laid (n * p) new bytes) ≡ length bytes
     l = length-laid (n * p) new bytes (omega arith)
+
     go : (b : Bool) → eqb n i ≡ b → filePage p (laid (n * p) new bytes) i ≡ cond (b && true) (Some new) (filePage p bytes i)
     go true e =
         let s : n ≡ i = eqb-true n i e in
@@ -69,6 +70,7 @@ file-written p n new bytes h j = ap pagesAre (fun-ext each)
   where
     pagesAre : (List ℕ → Option (List ℕ)) → Meaning
     pagesAre f = record { size = p; isOpen = true; pages = f }
+
     each : (k : List ℕ) → filePages p (laid (n * p) new bytes) k ≡ paged (n ∷ []) new (filePages p bytes) k
     each [] = refl
     each (i ∷ []) = page-laid p n i new bytes h j

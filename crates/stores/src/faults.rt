@@ -59,9 +59,11 @@ impl StoreFault {
         match self {
             StoreFault::PageSize => "the page size is not from 1 to 4096",
             StoreFault::SectionOne => "the rows are not all there, or are more than 256",
-            StoreFault::Row => "a row has an unknown unit, too many pages or a delivery listed before",
+            StoreFault::Row =>
+                "a row has an unknown unit, too many pages or a delivery listed before",
             StoreFault::SectionTwo => "the pages are not exactly those that the rows count",
-            StoreFault::FileLength => "the bytes are not a whole number of pages, or are more than 1048576 pages",
+            StoreFault::FileLength =>
+                "the bytes are not a whole number of pages, or are more than 1048576 pages",
             StoreFault::NotHeld => "the store does not hold the key",
             StoreFault::Sealed => "the store is sealed",
             StoreFault::BufferLength => "the buffer is not as long as a page",
@@ -90,10 +92,12 @@ pub impl fmt::Display for Layer as LayerDisplay {
     ghost shown = { λ l. Some (layerName l) };
 
     fn fmt<W: fmt::Write>(&self, f: &mut fmt::Formatter<W>) -> fmt::Result {
-        f.write_str(match self {
-            Self::Store => "store",
-            Self::Pool => "pool",
-            Self::Table => "table",
-        })
+        f.write_str(
+            match self {
+                Self::Store => "store",
+                Self::Pool => "pool",
+                Self::Table => "table",
+            },
+        )
     }
 }

@@ -8,15 +8,15 @@ mod store;
 mod works;
 
 pub use faults::Layer;
-pub use faults::LayerDisplay;
 pub use faults::LayerDebug;
+pub use faults::LayerDisplay;
 pub use faults::LayerEq;
 pub use faults::LayerPartialEq;
 pub use faults::StoreFault;
 pub use faults::StoreFaultDebug;
+pub use faults::StoreFaultDisplay;
 pub use faults::StoreFaultEq;
 pub use faults::StoreFaultPartialEq;
-pub use faults::StoreFaultDisplay;
 pub use file::WorkFile;
 pub use store::Store;
 pub use works::WorkFileStore;

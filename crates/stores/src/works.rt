@@ -20,6 +20,7 @@ use keys::PageKey;
 use keys::PageNo;
 
 const LARGEST_PAGE: usize = 4096;
+
 const MOST_PAGES: usize = 1_048_576;
 
 // Lays the page on the bytes from an offset.
@@ -65,7 +66,10 @@ impl WorkFile {
     pub fn into_bytes(self) -> Vec<u8>
         ensures { λ r. ⌜ r ≡ self .bytes ⌝ }
     {
-        let WorkFile { bytes, page_size: _ } = self;
+        let WorkFile {
+            bytes,
+            page_size: _,
+        } = self;
         bytes
     }
 

@@ -29,9 +29,10 @@ returns-then-row-delivery c =
     let part = now (c .args .self .now .rows) in
     let e = c .row-at-row .ensures in
     record {
-    answer = ap (λ (r : Row). Some (record { before = c .loop-i .before; row = r })) (row-is (c .row-at-row .result) (rowAt part (c .loop-i .i)) (e .delivery) (e .unit) (e .pages))
-    ∙ sym (sought-here (c .args .delivery .0) part _ (c .loop-i .i) (c .loop-i .before) (c .loop-i-test .taken) (sym (e .delivery) ∙ c .if-row-delivery .taken) (c .loop-i .inv));
-    small = omega arith }
+      answer = ap (λ (r : Row). Some (record { before = c .loop-i .before; row = r })) (row-is (c .row-at-row .result) (rowAt part (c .loop-i .i)) (e .delivery) (e .unit) (e .pages))
+          ∙ sym (sought-here (c .args .delivery .0) part _ (c .loop-i .i) (c .loop-i .before) (c .loop-i-test .taken) (sym (e .delivery) ∙ c .if-row-delivery .taken) (c .loop-i .inv));
+      small = omega arith;
+    }
 
 pub returns : need.returns
 returns c = record { answer = sym (sought-none _ _ _ _ _ (c .loop-i-test .left) (c .loop-i .inv)); small = tt }
