@@ -77,7 +77,7 @@ fn key(delivery: u16, page: u32) -> DeliveryKey {
     }
 }
 
-pub fn run(rt: &LibcRuntime, heap: Global) -> Result<(), AnyError> {
+pub(crate) fn run(rt: &LibcRuntime, heap: Global) -> Result<(), AnyError> {
     sections(rt, heap)?;
     namesakes(rt, heap)?;
     refusals(rt, heap)?;

@@ -200,7 +200,7 @@ fn play<K: Key + Copy + Display + Readable + Drop>(
 }
 
 // The same words that a caller could give, for the demonstration.
-pub fn sample(rt: &LibcRuntime, heap: Global, frames: u32, words: &str) -> Result<(), AnyError> {
+pub(crate) fn sample(rt: &LibcRuntime, heap: Global, frames: u32, words: &str) -> Result<(), AnyError> {
     let mut plain = open::<PageNo>(heap, frames)?;
     for word in words.split(' ') {
         play_word(rt, heap, &mut plain, word)?;
@@ -209,7 +209,7 @@ pub fn sample(rt: &LibcRuntime, heap: Global, frames: u32, words: &str) -> Resul
 }
 
 // The words after `machine`: the number of frames and the keys, all of one kind. The first key tells which.
-pub fn run(rt: &LibcRuntime, heap: Global, words: &[String]) -> Result<(), AnyError> {
+pub(crate) fn run(rt: &LibcRuntime, heap: Global, words: &[String]) -> Result<(), AnyError> {
     let [frames, keys @ ..] = words else {
         return Err("machine takes a number of frames and keys".into());
     };

@@ -45,7 +45,7 @@ fn unit_number(unit: AmountUnit) -> u64 {
 }
 
 /// Compares what the readers say of the bytes.
-pub fn compare(
+pub(crate) fn compare(
     heap: Global,
     tally: &mut Tally,
     page_size: usize,

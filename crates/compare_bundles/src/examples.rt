@@ -48,7 +48,7 @@ fn example(
 }
 
 /// Bundles that open, and the same with a byte less, a byte more or another page size.
-pub fn good_examples(heap: Global) -> Result<Tally, AllocError> {
+pub(crate) fn good_examples(heap: Global) -> Result<Tally, AllocError> {
     let mut tally = Tally::new();
     let t = &mut tally;
     example(heap, t, 0, 1, ONE)?;
@@ -64,7 +64,7 @@ pub fn good_examples(heap: Global) -> Result<Tally, AllocError> {
 }
 
 /// Damaged bundles.
-pub fn damaged_examples(heap: Global) -> Result<Tally, AllocError> {
+pub(crate) fn damaged_examples(heap: Global) -> Result<Tally, AllocError> {
     let mut tally = Tally::new();
     let t = &mut tally;
     for page_size in [0, 4_097] {

@@ -63,7 +63,7 @@ fn list_again(rows: &mut Vec<Row>, earlier: usize, later: usize) {
 }
 
 /// Good bundles of 0 to 6 deliveries, two of each for each page size.
-pub fn good(heap: Global, dice: &mut Dice) -> Result<Tally, AllocError> {
+pub(crate) fn good(heap: Global, dice: &mut Dice) -> Result<Tally, AllocError> {
     let mut tally = Tally::new();
     for page_size in [1, 2, 3, 4, 5, 6, 7, 8, 9, 64] {
         for half in 0..14u16 {
@@ -82,7 +82,7 @@ pub fn good(heap: Global, dice: &mut Dice) -> Result<Tally, AllocError> {
 }
 
 /// Bundles cut short at every length.
-pub fn cut_short(heap: Global, dice: &mut Dice) -> Result<Tally, AllocError> {
+pub(crate) fn cut_short(heap: Global, dice: &mut Dice) -> Result<Tally, AllocError> {
     let mut tally = Tally::new();
     for half in 0..14u16 {
         let page_size = 1 + dice.below(4) as usize;
@@ -98,7 +98,7 @@ pub fn cut_short(heap: Global, dice: &mut Dice) -> Result<Tally, AllocError> {
 }
 
 /// Bundles with one byte too many.
-pub fn byte_too_many(heap: Global, dice: &mut Dice) -> Result<Tally, AllocError> {
+pub(crate) fn byte_too_many(heap: Global, dice: &mut Dice) -> Result<Tally, AllocError> {
     let mut tally = Tally::new();
     for page_size in 1..7usize {
         for count in 0..7u16 {
@@ -112,7 +112,7 @@ pub fn byte_too_many(heap: Global, dice: &mut Dice) -> Result<Tally, AllocError>
 }
 
 /// Bundles with a single byte changed, at each place.
-pub fn byte_changed(heap: Global, dice: &mut Dice) -> Result<Tally, AllocError> {
+pub(crate) fn byte_changed(heap: Global, dice: &mut Dice) -> Result<Tally, AllocError> {
     let mut tally = Tally::new();
     for half in 0..14u16 {
         let page_size = 1 + dice.below(3) as usize;
@@ -131,7 +131,7 @@ pub fn byte_changed(heap: Global, dice: &mut Dice) -> Result<Tally, AllocError> 
 }
 
 /// Page sizes at and past their limits, over no bytes, the smallest bundle, one for 1 byte a page, and one for this size.
-pub fn page_sizes(heap: Global, dice: &mut Dice) -> Result<Tally, AllocError> {
+pub(crate) fn page_sizes(heap: Global, dice: &mut Dice) -> Result<Tally, AllocError> {
     let mut tally = Tally::new();
     let small = [
         Row {
@@ -163,7 +163,7 @@ pub fn page_sizes(heap: Global, dice: &mut Dice) -> Result<Tally, AllocError> {
 }
 
 /// Random bytes; small ones in every other string, so that the first questions are often passed.
-pub fn random_bytes(heap: Global, dice: &mut Dice) -> Result<Tally, AllocError> {
+pub(crate) fn random_bytes(heap: Global, dice: &mut Dice) -> Result<Tally, AllocError> {
     let mut tally = Tally::new();
     for i in 0..400u32 {
         let length = dice.below(40);
@@ -184,7 +184,7 @@ pub fn random_bytes(heap: Global, dice: &mut Dice) -> Result<Tally, AllocError> 
 }
 
 /// Counts of rows at and past the limit: with three rows there, and with all of them there, whole and cut short.
-pub fn row_counts(heap: Global, dice: &mut Dice) -> Result<Tally, AllocError> {
+pub(crate) fn row_counts(heap: Global, dice: &mut Dice) -> Result<Tally, AllocError> {
     let mut tally = Tally::new();
     for row_count in [256, 257, 65_535] {
         let rows = make_rows(heap, dice, 3)?;
@@ -221,7 +221,7 @@ pub fn row_counts(heap: Global, dice: &mut Dice) -> Result<Tally, AllocError> {
 }
 
 /// 255 to 257 rows of which the last lists the delivery of an earlier one, or one has a bad unit.
-pub fn bad_row_of_many(heap: Global, dice: &mut Dice) -> Result<Tally, AllocError> {
+pub(crate) fn bad_row_of_many(heap: Global, dice: &mut Dice) -> Result<Tally, AllocError> {
     let mut tally = Tally::new();
     for row_count in 255..258u16 {
         for earlier in [0, 1, 128, 253] {
@@ -241,7 +241,7 @@ pub fn bad_row_of_many(heap: Global, dice: &mut Dice) -> Result<Tally, AllocErro
 }
 
 /// Page counts at and past the limit, in each row, with a few bytes in place of the pages.
-pub fn page_counts(heap: Global, dice: &mut Dice) -> Result<Tally, AllocError> {
+pub(crate) fn page_counts(heap: Global, dice: &mut Dice) -> Result<Tally, AllocError> {
     let mut tally = Tally::new();
     for count in 1..7u16 {
         for place in 0..count as usize {
@@ -260,7 +260,7 @@ pub fn page_counts(heap: Global, dice: &mut Dice) -> Result<Tally, AllocError> {
 
 /// Bundles with as many pages as a delivery can have: one byte short, all there, one too many; and bundles without page
 /// bytes whose length would come out right if the product of page count and page size wrapped at 32 bits.
-pub fn largest(heap: Global, dice: &mut Dice) -> Result<Tally, AllocError> {
+pub(crate) fn largest(heap: Global, dice: &mut Dice) -> Result<Tally, AllocError> {
     let mut tally = Tally::new();
     let rows = [
         Row {
@@ -289,7 +289,7 @@ pub fn largest(heap: Global, dice: &mut Dice) -> Result<Tally, AllocError> {
 
 /// A count of pages that is one too small, right, one too large or far too large, with the pages of the rows and with
 /// those of the count, 40 at most.
-pub fn page_totals(heap: Global, dice: &mut Dice) -> Result<Tally, AllocError> {
+pub(crate) fn page_totals(heap: Global, dice: &mut Dice) -> Result<Tally, AllocError> {
     let mut tally = Tally::new();
     for page_size in 1..5usize {
         for count in 0..7u16 {
@@ -316,7 +316,7 @@ pub fn page_totals(heap: Global, dice: &mut Dice) -> Result<Tally, AllocError> {
 }
 
 /// A row with a unit above 1, in each place, without and with what follows the rows.
-pub fn units(heap: Global, dice: &mut Dice) -> Result<Tally, AllocError> {
+pub(crate) fn units(heap: Global, dice: &mut Dice) -> Result<Tally, AllocError> {
     let mut tally = Tally::new();
     for count in 1..7u16 {
         for place in 0..count as usize {
@@ -336,7 +336,7 @@ pub fn units(heap: Global, dice: &mut Dice) -> Result<Tally, AllocError> {
 }
 
 /// A delivery listed twice, by each two rows.
-pub fn listed_twice(heap: Global, dice: &mut Dice) -> Result<Tally, AllocError> {
+pub(crate) fn listed_twice(heap: Global, dice: &mut Dice) -> Result<Tally, AllocError> {
     let mut tally = Tally::new();
     for count in 2..7u16 {
         for later in 1..count as usize {

@@ -10,12 +10,12 @@ pub struct Dice {
 }
 
 impl Dice {
-    pub fn new(state: u32) -> Dice {
+    pub(crate) fn new(state: u32) -> Dice {
         Dice { state }
     }
 
     /// The next number, below `limit`, which is at most 65,536.
-    pub fn below(&mut self, limit: u32) -> u32 {
+    pub(crate) fn below(&mut self, limit: u32) -> u32 {
         self.state = self.state
             .wrapping_mul(1_664_525)
             .wrapping_add(1_013_904_223);
@@ -23,7 +23,7 @@ impl Dice {
         if limit == 0 { 0 } else { high % limit }
     }
 
-    pub fn byte(&mut self) -> u8 {
+    pub(crate) fn byte(&mut self) -> u8 {
         (self.below(256) & 0xff) as u8
     }
 }
@@ -37,7 +37,7 @@ pub struct Row {
 }
 
 /// Good rows: no delivery twice, 0 to 5 pages.
-pub fn make_rows(heap: Global, dice: &mut Dice, count: u16) -> Result<Vec<Row>, AllocError> {
+pub(crate) fn make_rows(heap: Global, dice: &mut Dice, count: u16) -> Result<Vec<Row>, AllocError> {
     let base = match dice.below(8) {
         0 => 0,
         1 => 65_535,
@@ -57,7 +57,7 @@ pub fn make_rows(heap: Global, dice: &mut Dice, count: u16) -> Result<Vec<Row>, 
 }
 
 /// The sum of the page counts.
-pub fn page_sum(rows: &[Row]) -> u32 {
+pub(crate) fn page_sum(rows: &[Row]) -> u32 {
     let mut sum: u32 = 0;
     for row in rows {
         sum = sum.wrapping_add(row.pages);
@@ -66,7 +66,7 @@ pub fn page_sum(rows: &[Row]) -> u32 {
 }
 
 /// The bytes of the rows behind the count `row_count`, then the count `page_count`, then `page_bytes` bytes.
-pub fn lay(
+pub(crate) fn lay(
     heap: Global,
     dice: &mut Dice,
     row_count: u16,
@@ -89,7 +89,7 @@ pub fn lay(
 }
 
 /// The bundle of the rows, with the right counts and as many bytes as its pages have.
-pub fn make_bundle(
+pub(crate) fn make_bundle(
     heap: Global,
     dice: &mut Dice,
     page_size: usize,

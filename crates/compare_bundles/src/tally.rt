@@ -18,7 +18,7 @@ pub struct Tally {
 
 impl Tally {
     /// No string yet.
-    pub fn new() -> Tally {
+    pub(crate) fn new() -> Tally {
         Tally {
             strings: 0,
             opened: 0,
@@ -33,7 +33,7 @@ impl Tally {
     }
 
     /// One more string, with the number of its refusal, 0 where it opens.
-    pub fn count(&mut self, refusal: u8) {
+    pub(crate) fn count(&mut self, refusal: u8) {
         self.strings = self.strings.saturating_add(1);
         match refusal {
             0 => self.opened = self.opened.saturating_add(1),
@@ -46,7 +46,7 @@ impl Tally {
     }
 
     /// One more answer of both readers. The digest takes in what the proved one says.
-    pub fn same(&mut self, plain: u64, proved: u64) {
+    pub(crate) fn same(&mut self, plain: u64, proved: u64) {
         self.answers = self.answers.saturating_add(1);
         self.digest = (self.digest ^ proved).wrapping_mul(1_099_511_628_211);
         if plain != proved {
@@ -55,7 +55,7 @@ impl Tally {
     }
 
     /// Takes in the counts of another kind.
-    pub fn add(&mut self, kind: &Tally) {
+    pub(crate) fn add(&mut self, kind: &Tally) {
         self.strings = self.strings.saturating_add(kind.strings);
         self.opened = self.opened.saturating_add(kind.opened);
         self.refused_1 = self.refused_1.saturating_add(kind.refused_1);
@@ -68,12 +68,12 @@ impl Tally {
     }
 
     /// The number of strings.
-    pub fn strings(&self) -> u64 {
+    pub(crate) fn strings(&self) -> u64 {
         self.strings
     }
 
     /// The number of answers in which the readers differ.
-    pub fn differ(&self) -> u64 {
+    pub(crate) fn differ(&self) -> u64 {
         self.differ
     }
 }
