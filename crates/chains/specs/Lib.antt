@@ -1,0 +1,3 @@
+pub mod Cells
+pub mod Orders
+pub mod Shape
