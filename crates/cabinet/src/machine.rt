@@ -200,7 +200,12 @@ fn play<K: Key + Copy + Display + Readable + Drop>(
 }
 
 // The same words that a caller could give, for the demonstration.
-pub(crate) fn sample(rt: &LibcRuntime, heap: Global, frames: u32, words: &str) -> Result<(), AnyError> {
+pub(crate) fn sample(
+    rt: &LibcRuntime,
+    heap: Global,
+    frames: u32,
+    words: &str,
+) -> Result<(), AnyError> {
     let mut plain = open::<PageNo>(heap, frames)?;
     for word in words.split(' ') {
         play_word(rt, heap, &mut plain, word)?;

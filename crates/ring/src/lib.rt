@@ -16,7 +16,10 @@ ghost use lib.ListN.{length};
 ghost use Rattle.rows.specs.Rows.{Stands};
 ghost use Rattle.machine.specs.Hands.{opened};
 ghost use Rattle.machine.specs.Facts.{Well};
-ghost use Rattle.ring.specs.Model.{machineOf};
+ghost use mathlib.Core.List.{map};
+ghost use Rattle.std.specs.Of.Vec.{vec-items};
+ghost use Rattle.std.specs.Vec.{made};
+ghost use Rattle.ring.specs.Model.{entryIn, machineOf};
 pub use calls::Granted;
 pub use calls::Outcome;
 pub use calls::Refusal;
@@ -46,6 +49,8 @@ pub use runs::cold_run;
 pub use runs::hot_run;
 pub use runs::make_room;
 pub use runs::test_run;
+use std::alloc::AllocError;
+use std::alloc::Global;
 
 /// A ring's plain numbers: those of its rows, the cold allocation c, and the number u of frames in use.
 #[derive(Clone, Copy)]
@@ -91,4 +96,17 @@ pub fn frames_used(ring: &Ring) -> u32
     ensures { λ r. ⌜ r ≡ now (ring .entry) .used ⌝ }
 {
     ring.used
+}
+
+/// All entries, from the tail to the head, in a vector of their own: for whoever wants to look at the whole ring.
+pub fn list<K: Key + Copy>(
+    heap: Global,
+    cells: &[Cell<Entry<K>>],
+    ring: &Ring,
+) -> Result<Vec<Entry<K>>, AllocError>
+    requires { ⌜ Stands (now cells) (now ring .table) ⌝ }
+    ensures { λ r. ⌜ made r (λ v. map (entryIn meaning) (vec-items v) ≡ machineOf meaning (now (cells .entry)) (now (ring .entry)) .ring) ⌝ }
+{
+    let all = rows::list(heap, cells, &ring.table)?;
+    Ok(all)
 }
