@@ -1,6 +1,8 @@
 //! Bundles: the sealed store of deliveries, read out of bytes that it borrows. The format stands in specs/Format.antt,
 //! byte by byte; what a bundle holds, in specs/Contents.antt.
 
+#![tactic(auto)]
+
 mod bundle;
 mod opening;
 mod reading;

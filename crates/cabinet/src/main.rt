@@ -1,5 +1,7 @@
 //! The program `cabinet`. Without words it runs the demonstration; `help` names the words that it takes.
 
+#![tactic(auto)]
+
 mod demo;
 mod machine;
 

@@ -4,6 +4,8 @@
 //! each cell and the slot of each frame. Each call says what becomes of the whole shape, by one equation. `cell` has the
 //! cell, drawn; `link` has one chain, whichever it is; `directory` has the slots.
 
+#![tactic(auto)]
+
 mod cell;
 mod directory;
 mod link;

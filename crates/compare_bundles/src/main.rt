@@ -1,5 +1,7 @@
 //! Compares the plain reader of bundles with the proved one, over strings of many kinds.
 
+#![tactic(auto)]
+
 mod comparing;
 mod examples;
 mod kinds;

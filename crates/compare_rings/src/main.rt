@@ -1,6 +1,8 @@
 //! Plays long pseudo-random runs, with loans that are kept, on the ring over cells and on the simulator on a plain list, at
 //! both kinds of key, and compares each answer and then the whole ring.
 
+#![tactic(auto)]
+
 mod playing;
 mod tally;
 

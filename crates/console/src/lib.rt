@@ -1,5 +1,7 @@
 //! What the program prints, as text that is stated: lines of refusals, deliveries and bundles, and bytes in hexadecimal.
 
+#![tactic(auto)]
+
 mod lines;
 mod listings;
 mod pages;

@@ -1,6 +1,8 @@
 //! Numbers and keys. A frame, a cell, a page and a delivery each have a number of a type of its own, so that none can
 //! be taken for another. A key names a page of a store; code that is generic in the kind of key knows only `Key`.
 
+#![tactic(auto)]
+
 ghost use Rattle.std.specs.Prelude.{◌≡◌, ℕ, List, [], ◌∷◌, ◌++◌, Some, codes, decimal};
 ghost use Rattle.keys.specs.Same.{same_list, Exactly};
 

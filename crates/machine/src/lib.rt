@@ -5,6 +5,8 @@
 //! every state, `Laws` the laws. Each function here does nothing; its contract is the law, so that the check asks for its
 //! proof.
 
+#![tactic(auto)]
+
 ghost use Rattle.machine.specs.Laws.{OneResult, Ends, Standing, Refusals, Paid, Table, Pages, Exact};
 
 /// Each run and each borrow has at most one result.

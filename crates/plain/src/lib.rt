@@ -5,6 +5,8 @@
 //! `Letters` prints it. Each call is the list machine's call on the state that the simulator holds, read by `machine_of`.
 //! All memory is taken at opening, so that no later call can fail for want of it. No call asks anything of its caller.
 
+#![tactic(auto)]
+
 ghost use Rattle.std.specs.Prelude.{◌≡◌, nat_lt};
 ghost use Rattle.machine.specs.Entry.{first, named};
 ghost use Rattle.machine.specs.Borrow as rules;

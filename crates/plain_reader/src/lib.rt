@@ -1,6 +1,8 @@
 //! A second reader of bundles, for comparison. It decodes all rows into a list first, makes the list of all keys in the
 //! order of their pages, and finds a page by walking that list and the pages side by side.
 
+#![tactic(auto)]
+
 ghost use Rattle.std.specs.Prelude.{◌≡◌, ◌+◌, ◌*◌, ◌<◌, ◌≤◌, length, IfSome, IfOk, vec_len, fold, OnSome};
 ghost use Rattle.plain_reader.specs.Answers.{Known};
 

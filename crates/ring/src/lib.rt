@@ -5,6 +5,8 @@
 //! and at exit. `Stands` says that cells and numbers belong together. `hands` has the steps of the three hands, `runs`
 //! their runs, `calls` what a pool does with a ring, `over` a struct that holds the cells for the time of a call.
 
+#![tactic(auto)]
+
 mod calls;
 mod hands;
 mod over;

@@ -5,6 +5,8 @@
 //! Changes: `open`, `enter`, `turn`, `rewrite`, `take_out`. A change looks only at the flags of the old and of the new
 //! entry; it knows none of the rules by which entries change.
 
+#![tactic(auto)]
+
 ghost use Rattle.std.specs.Prelude.{◌≡◌, ℕ, ◌+◌, ◌^◌, ◌<◌, true, false, [], ◌∷◌, ◌++◌, length, IfOk, if◌then◌else◌, Some, None};
 ghost use Rattle.std.specs.List.{ContainsAt as Has};
 ghost use Rattle.chains.specs.Orders.{Misses};

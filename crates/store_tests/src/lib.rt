@@ -1,6 +1,8 @@
 //! Tests of the stores through their public calls: the worked examples, and every refusal at its limit, with what the
 //! refused call was lent compared before and after.
 
+#![tactic(auto)]
+
 #[cfg(test)]
 mod bundle_tests;
 #[cfg(test)]

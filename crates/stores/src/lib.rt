@@ -2,6 +2,8 @@
 //! its contract stands on what a store means (specs/Meaning.antt). `StoreFault` has the refusals of all stores.
 //! `WorkFile` is the open store over bytes of its own.
 
+#![tactic(auto)]
+
 mod faults;
 mod file;
 mod store;
