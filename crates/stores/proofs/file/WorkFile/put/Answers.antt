@@ -14,7 +14,7 @@ returns c =
     let old = vec_items w.bytes in
     let inside : n * p + p ≤ length old = omega (arith, c.requires.0, w.bytes.ok.0) in
     let whole : length page ≡ p = c.requires.1 in
-    let l : c.lay.new.bytes ≡ laid (n * p) page old = c.lay.ensures ∙ ap (laid (n * p) page) c.as-mut-slice.ensures.value in
+    let l : c.lay.new.bytes ≡ laid (n * p) page old = c.lay.ensures ∙ ap (laid (n * p) page) c.as_mut_slice.ensures.value in
     let long : length c.lay.new.bytes ≡ length old = ap length l ∙ length-laid (n * p) page old (omega arith) in
     let r = refills old c.lay.new.bytes w.bytes.len (omega (arith, long, w.bytes.ok.0)) (omega (arith, w.bytes.ok.0)) in
     ap (file_of p) (r ∙ l) ∙ file_written p n page old inside whole
