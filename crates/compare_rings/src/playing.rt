@@ -148,9 +148,9 @@ fn borrow_both<K: Key + Copy>(
     requires frames { m ≤ 4096 }
     requires memory { 2 * m ≤ length cells.old }
     requires stands { Stands cells.old ring.old.table }
-    requires facts { Well m (machine_of meaning cells.old ring.old) }
+    requires facts { Well m (machine_of K.Key.meaning cells.old ring.old) }
     ensures stands { Stands cells.new ring.new.table }
-    ensures facts { Well m (machine_of meaning cells.new ring.new) }
+    ensures facts { Well m (machine_of K.Key.meaning cells.new ring.new) }
 {
     let a = ring::borrow(cells, ring, m, key);
     let b = plain.borrow(key);
@@ -167,9 +167,9 @@ fn return_both<K: Key + Copy>(
     tally: &mut Tally,
 )
     requires stands { Stands cells.old ring.old.table }
-    requires facts { Well m (machine_of meaning cells.old ring.old) }
+    requires facts { Well m (machine_of K.Key.meaning cells.old ring.old) }
     ensures stands { Stands cells.new ring.new.table }
-    ensures facts { Well m (machine_of meaning cells.new ring.new) }
+    ensures facts { Well m (machine_of K.Key.meaning cells.new ring.new) }
 {
     let a = ring::give_back(cells, ring, frame);
     let b = plain.give_back(frame);

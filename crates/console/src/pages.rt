@@ -15,7 +15,7 @@ pub fn page_text<K: Key, S: Store<K>>(
     store: &mut S,
     key: &K,
 ) -> Result<String, AllocError>
-    ensures text { IfOk result (λ s. string_bytes s ≡ page_text (meant store.old) (meaning key.now)) }
+    ensures text { IfOk result (λ s. string_bytes s ≡ page_text (meant store.old) (K.Key.meaning key.now)) }
     ensures store { meant store.new ≡ meant store.old }
 {
     let size = store.page_size();

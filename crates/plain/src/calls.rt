@@ -68,15 +68,15 @@ impl Refusal {
 impl<K: Key + Copy> State<K> {
     /// Whether no frame is unused and every resident page has a loan.
     fn is_full(&self, m: u32) -> bool
-        ensures { rules.full m (machine_of meaning self.now) ≡ (if result then Some 11 else None) }
+        ensures { rules.full m (machine_of K.Key.meaning self.now) ≡ (if result then Some 11 else None) }
     {
         m <= self.used && lists::tally(&self.ring, Question::Idle) == 0
     }
 
     /// Takes the key's entry out and raises the cold allocation; the answer is whether there was one.
     fn recall(&mut self, m: u32, key: K) -> bool
-        ensures there { result ≡ is_some (first (named (meaning key)) (machine_of meaning self.old).ring) }
-        ensures step { machine_of meaning self.new ≡ recalled_if m (meaning key) result (machine_of meaning self.old) }
+        ensures there { result ≡ is_some (first (named (K.Key.meaning key)) (machine_of K.Key.meaning self.old).ring) }
+        ensures step { machine_of K.Key.meaning self.new ≡ recalled_if m (K.Key.meaning key) result (machine_of K.Key.meaning self.old) }
         ensures memory { vec_capacity self.new.ring ≡ vec_capacity self.old.ring }
     {
         let Some(spot) = lists::find(&self.ring, Question::Named(key)) else {
@@ -90,11 +90,11 @@ impl<K: Key + Copy> State<K> {
     /// A fault: a test fault if the key is remembered, which is asked before any hand moves, else a cold fault.
     fn fault(&mut self, m: u32, key: K) -> Granted<K>
         requires frames { m ≤ 4096 }
-        requires facts { Mid m None (machine_of meaning self.old) }
+        requires facts { Mid m None (machine_of K.Key.meaning self.old) }
         requires memory { 2 * m ≤ vec_capacity self.old.ring }
-        requires away { Away (meaning key) (machine_of meaning self.old) }
-        requires due { rules.refusal m (meaning key) (machine_of meaning self.old) ≡ None }
-        ensures borrowed { rules.Borrow m (meaning key) (machine_of meaning self.old) (granted_of meaning result) (machine_of meaning self.new) }
+        requires away { Away (K.Key.meaning key) (machine_of K.Key.meaning self.old) }
+        requires due { rules.refusal m (K.Key.meaning key) (machine_of K.Key.meaning self.old) ≡ None }
+        ensures borrowed { rules.Borrow m (K.Key.meaning key) (machine_of K.Key.meaning self.old) (granted_of K.Key.meaning result) (machine_of K.Key.meaning self.new) }
         ensures memory { vec_capacity self.new.ring ≡ vec_capacity self.old.ring }
     {
         let (remembered, room) = (self.recall(m, key), self.room(m));
@@ -132,11 +132,11 @@ impl<K: Key + Copy> State<K> {
     /// A key that is not resident: the question for a frame, then the fault.
     fn miss(&mut self, m: u32, key: K) -> Result<Granted<K>, Refusal>
         requires frames { m ≤ 4096 }
-        requires facts { Mid m None (machine_of meaning self.old) }
+        requires facts { Mid m None (machine_of K.Key.meaning self.old) }
         requires memory { 2 * m ≤ vec_capacity self.old.ring }
-        requires away { Away (meaning key) (machine_of meaning self.old) }
-        requires question { rules.refusal m (meaning key) (machine_of meaning self.old) ≡ rules.full m (machine_of meaning self.old) }
-        ensures borrowed { rules.Borrow m (meaning key) (machine_of meaning self.old) (answer_of meaning result) (machine_of meaning self.new) }
+        requires away { Away (K.Key.meaning key) (machine_of K.Key.meaning self.old) }
+        requires question { rules.refusal m (K.Key.meaning key) (machine_of K.Key.meaning self.old) ≡ rules.full m (machine_of K.Key.meaning self.old) }
+        ensures borrowed { rules.Borrow m (K.Key.meaning key) (machine_of K.Key.meaning self.old) (answer_of K.Key.meaning result) (machine_of K.Key.meaning self.new) }
         ensures memory { vec_capacity self.new.ring ≡ vec_capacity self.old.ring }
     {
         if self.is_full(m) {
@@ -147,9 +147,9 @@ impl<K: Key + Copy> State<K> {
 
     /// A hit on the entry that was found by the key: its bit is set, and it has one loan more.
     fn hit(&mut self, key: K, spot: Spot<K>)
-        requires found { Found meaning (Named key) self.old.ring.items spot.at spot.entry }
+        requires found { Found K.Key.meaning (Named key) self.old.ring.items spot.at spot.entry }
         requires loans { spot.entry.loans < 255 }
-        ensures step { machine_of meaning self.new ≡ rules.hit (meaning key) (machine_of meaning self.old) }
+        ensures step { machine_of K.Key.meaning self.new ≡ rules.hit (K.Key.meaning key) (machine_of K.Key.meaning self.old) }
         ensures memory { vec_capacity self.new.ring ≡ vec_capacity self.old.ring }
     {
         lists::put(&mut self.ring, spot.at, Some(entries::lend(spot.entry)));
@@ -158,9 +158,9 @@ impl<K: Key + Copy> State<K> {
     /// Borrows a key: the questions in their order, then the hit or the fault.
     pub(crate) fn borrow(&mut self, m: u32, key: K) -> Result<Granted<K>, Refusal>
         requires frames { m ≤ 4096 }
-        requires facts { Mid m None (machine_of meaning self.old) }
+        requires facts { Mid m None (machine_of K.Key.meaning self.old) }
         requires memory { 2 * m ≤ vec_capacity self.old.ring }
-        ensures borrowed { rules.Borrow m (meaning key) (machine_of meaning self.old) (answer_of meaning result) (machine_of meaning self.new) }
+        ensures borrowed { rules.Borrow m (K.Key.meaning key) (machine_of K.Key.meaning self.old) (answer_of K.Key.meaning result) (machine_of K.Key.meaning self.new) }
         ensures memory { vec_capacity self.new.ring ≡ vec_capacity self.old.ring }
     {
         let Some(spot) = lists::find(&self.ring, Question::Named(key)) else {
@@ -188,8 +188,8 @@ impl<K: Key + Copy> State<K> {
 
     /// Takes one loan off a frame; the answer is whether it carried one.
     pub(crate) fn give_back(&mut self, frame: FrameNo) -> bool
-        ensures carried { result ≡ nat_lt 0 (rules.carries frame.0 (machine_of meaning self.old)) }
-        ensures step { machine_of meaning self.new ≡ rules.give_back frame.0 (machine_of meaning self.old) }
+        ensures carried { result ≡ nat_lt 0 (rules.carries frame.0 (machine_of K.Key.meaning self.old)) }
+        ensures step { machine_of K.Key.meaning self.new ≡ rules.give_back frame.0 (machine_of K.Key.meaning self.old) }
         ensures memory { vec_capacity self.new.ring ≡ vec_capacity self.old.ring }
     {
         let Some(spot) = lists::find(&self.ring, Question::LiesIn(frame)) else {
@@ -204,7 +204,7 @@ impl<K: Key + Copy> State<K> {
 
     /// Sets or clears the altered mark of the page in a frame.
     pub(crate) fn mark_page(&mut self, frame: FrameNo, altered: bool)
-        ensures step { machine_of meaning self.new ≡ rules.mark_page frame.0 altered (machine_of meaning self.old) }
+        ensures step { machine_of K.Key.meaning self.new ≡ rules.mark_page frame.0 altered (machine_of K.Key.meaning self.old) }
         ensures memory { vec_capacity self.new.ring ≡ vec_capacity self.old.ring }
     {
         let Some(spot) = lists::find(&self.ring, Question::LiesIn(frame)) else {

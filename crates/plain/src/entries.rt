@@ -41,7 +41,7 @@ pub(crate) enum Question<K> {
 }
 
 fn is_idle<K: Key>(e: &Entry<K>) -> bool
-    ensures { result ≡ idle (entry_of meaning e.now) }
+    ensures { result ≡ idle (entry_of K.Key.meaning e.now) }
 {
     match e.frame {
         Some(_) => e.loans == 0,
@@ -50,7 +50,7 @@ fn is_idle<K: Key>(e: &Entry<K>) -> bool
 }
 
 fn is_in<K: Key>(e: &Entry<K>, wanted: FrameNo) -> bool
-    ensures { result ≡ lies_in wanted.0 (entry_of meaning e.now) }
+    ensures { result ≡ lies_in wanted.0 (entry_of K.Key.meaning e.now) }
 {
     match e.frame {
         Some(f) => wanted.0 == f.0,
@@ -60,7 +60,7 @@ fn is_in<K: Key>(e: &Entry<K>, wanted: FrameNo) -> bool
 
 /// The answer to a question about an entry.
 pub(crate) fn passes<K: Key>(e: &Entry<K>, question: &Question<K>) -> bool
-    ensures { result ≡ asks meaning question.now (entry_of meaning e.now) }
+    ensures { result ≡ asks K.Key.meaning question.now (entry_of K.Key.meaning e.now) }
 {
     match question {
         Question::Hot => e.hot,
@@ -89,7 +89,7 @@ pub(crate) fn raise(m: u32, c: u32) -> u32
 
 /// What the hot step puts at the head for the entry at the tail.
 pub(crate) fn after_hot_step<K: Key + Copy>(e: Entry<K>) -> Option<Entry<K>>
-    ensures { listed meaning result ≡ turned (entry_of meaning e) }
+    ensures { listed K.Key.meaning result ≡ turned (entry_of K.Key.meaning e) }
 {
     match (e.hot, e.bit, e.frame) {
         (true, true, _) => Some(Entry { bit: false, ..e }),
@@ -105,7 +105,7 @@ pub(crate) fn after_hot_step<K: Key + Copy>(e: Entry<K>) -> Option<Entry<K>>
 
 /// What the hot step makes of the cold allocation.
 pub(crate) fn cold_after_hot_step<K: Key>(e: &Entry<K>, c: u32) -> u32
-    ensures { result ≡ turned_cold (entry_of meaning e.now) c }
+    ensures { result ≡ turned_cold (entry_of K.Key.meaning e.now) c }
 {
     match (e.hot, e.frame, e.test) {
         (true, _, _) => c,
@@ -117,7 +117,7 @@ pub(crate) fn cold_after_hot_step<K: Key>(e: &Entry<K>, c: u32) -> u32
 
 /// What the test step leaves in the place of an entry with the test mark.
 pub(crate) fn after_test_step<K: Key + Copy>(e: Entry<K>) -> Option<Entry<K>>
-    ensures { listed meaning result ≡ tested (entry_of meaning e) }
+    ensures { listed K.Key.meaning result ≡ tested (entry_of K.Key.meaning e) }
 {
     match e.frame {
         Some(_) => Some(Entry { test: false, ..e }),
@@ -127,7 +127,7 @@ pub(crate) fn after_test_step<K: Key + Copy>(e: Entry<K>) -> Option<Entry<K>>
 
 /// What stays of a victim, in its place.
 pub(crate) fn after_eviction<K: Key + Copy>(e: Entry<K>) -> Option<Entry<K>>
-    ensures { listed meaning result ≡ left (entry_of meaning e) }
+    ensures { listed K.Key.meaning result ≡ left (entry_of K.Key.meaning e) }
 {
     if e.test {
         return Some(Entry {
@@ -145,7 +145,7 @@ pub(crate) fn after_eviction<K: Key + Copy>(e: Entry<K>) -> Option<Entry<K>>
 
 /// A candidate with bit and test mark becomes hot and loses both.
 pub(crate) fn promote<K: Key + Copy>(e: Entry<K>) -> Entry<K>
-    ensures { entry_of meaning result ≡ promoted (entry_of meaning e) }
+    ensures { entry_of K.Key.meaning result ≡ promoted (entry_of K.Key.meaning e) }
 {
     Entry {
         hot: true,
@@ -157,7 +157,7 @@ pub(crate) fn promote<K: Key + Copy>(e: Entry<K>) -> Entry<K>
 
 /// A candidate with the bit only loses it and is given the test mark.
 pub(crate) fn retest<K: Key + Copy>(e: Entry<K>) -> Entry<K>
-    ensures { entry_of meaning result ≡ retested (entry_of meaning e) }
+    ensures { entry_of K.Key.meaning result ≡ retested (entry_of K.Key.meaning e) }
 {
     Entry {
         test: true,
@@ -168,7 +168,7 @@ pub(crate) fn retest<K: Key + Copy>(e: Entry<K>) -> Entry<K>
 
 /// The new entry of a page that was read into a frame.
 pub(crate) fn fresh<K: Key + Copy>(key: K, hot: bool, frame: FrameNo) -> Entry<K>
-    ensures { entry_of meaning result ≡ entered (meaning key) hot frame.0 }
+    ensures { entry_of K.Key.meaning result ≡ entered (K.Key.meaning key) hot frame.0 }
 {
     let bit = false;
     Entry {
@@ -185,7 +185,7 @@ pub(crate) fn fresh<K: Key + Copy>(key: K, hot: bool, frame: FrameNo) -> Entry<K
 /// A hit: the bit is set, and there is one loan more.
 pub(crate) fn lend<K: Key + Copy>(e: Entry<K>) -> Entry<K>
     requires { e.loans < 255 }
-    ensures { entry_of meaning result ≡ lent (entry_of meaning e) }
+    ensures { entry_of K.Key.meaning result ≡ lent (entry_of K.Key.meaning e) }
 {
     Entry {
         bit: true,
@@ -196,7 +196,7 @@ pub(crate) fn lend<K: Key + Copy>(e: Entry<K>) -> Entry<K>
 
 /// A return: one loan less.
 pub(crate) fn repay<K: Key + Copy>(e: Entry<K>) -> Entry<K>
-    ensures { entry_of meaning result ≡ repaid (entry_of meaning e) }
+    ensures { entry_of K.Key.meaning result ≡ repaid (entry_of K.Key.meaning e) }
 {
     Entry {
         loans: e.loans.saturating_sub(1),
@@ -206,7 +206,7 @@ pub(crate) fn repay<K: Key + Copy>(e: Entry<K>) -> Entry<K>
 
 /// The altered mark, set or cleared.
 pub(crate) fn mark<K: Key + Copy>(e: Entry<K>, altered: bool) -> Entry<K>
-    ensures { entry_of meaning result ≡ marking altered (entry_of meaning e) }
+    ensures { entry_of K.Key.meaning result ≡ marking altered (entry_of K.Key.meaning e) }
 {
     Entry { altered, ..e }
 }

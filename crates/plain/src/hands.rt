@@ -57,7 +57,7 @@ pub(crate) struct Room<K> {
 impl<K: Key + Copy> State<K> {
     /// The hot step, at the tail.
     fn hot_step(&mut self)
-        ensures step { machine_of meaning self.new ≡ rules.hot_step (machine_of meaning self.old) }
+        ensures step { machine_of K.Key.meaning self.new ≡ rules.hot_step (machine_of K.Key.meaning self.old) }
         ensures memory { vec_capacity self.new.ring ≡ vec_capacity self.old.ring }
     {
         if self.ring.len() == 0 {
@@ -70,7 +70,7 @@ impl<K: Key + Copy> State<K> {
 
     /// The test step, at the first entry with the test mark.
     fn test_step(&mut self)
-        ensures step { machine_of meaning self.new ≡ rules.test_step (machine_of meaning self.old) }
+        ensures step { machine_of K.Key.meaning self.new ≡ rules.test_step (machine_of K.Key.meaning self.old) }
         ensures memory { vec_capacity self.new.ring ≡ vec_capacity self.old.ring }
     {
         self.cold = entries::lower(self.cold);
@@ -86,14 +86,14 @@ impl<K: Key + Copy> State<K> {
 
     /// Whether more than m - c entries are hot.
     fn is_too_hot(&self, m: u32) -> bool
-        ensures { result ≡ rules.too_hot m (machine_of meaning self.now) }
+        ensures { result ≡ rules.too_hot m (machine_of K.Key.meaning self.now) }
     {
         (m.saturating_sub(self.cold) as usize) < lists::tally(&self.ring, Question::Hot)
     }
 
     /// Whether more than m entries are remembered.
     fn has_too_many(&self, m: u32) -> bool
-        ensures { result ≡ rules.too_many m (machine_of meaning self.now) }
+        ensures { result ≡ rules.too_many m (machine_of K.Key.meaning self.now) }
     {
         (m as usize) < lists::tally(&self.ring, Question::Remembered)
     }
@@ -101,8 +101,8 @@ impl<K: Key + Copy> State<K> {
     /// The hot step while more than m - c entries are hot.
     pub(crate) fn hot_run(&mut self, m: u32) -> u32
         requires frames { m ≤ 4096 }
-        requires facts { Mid m None (machine_of meaning self.old) }
-        ensures run { rules.HotRun m (machine_of meaning self.old) result (machine_of meaning self.new) }
+        requires facts { Mid m None (machine_of K.Key.meaning self.old) }
+        ensures run { rules.HotRun m (machine_of K.Key.meaning self.old) result (machine_of K.Key.meaning self.new) }
         ensures memory { vec_capacity self.new.ring ≡ vec_capacity self.old.ring }
     {
         let mut steps = 0;
@@ -116,8 +116,8 @@ impl<K: Key + Copy> State<K> {
     /// The test step while more than m entries are remembered.
     fn test_run(&mut self, m: u32) -> u32
         requires frames { m ≤ 4096 }
-        requires facts { (gap : Option ℕ) × Mid m gap (machine_of meaning self.old) }
-        ensures run { rules.TestRun m (machine_of meaning self.old) result (machine_of meaning self.new) }
+        requires facts { (gap : Option ℕ) × Mid m gap (machine_of K.Key.meaning self.old) }
+        ensures run { rules.TestRun m (machine_of K.Key.meaning self.old) result (machine_of K.Key.meaning self.new) }
         ensures memory { vec_capacity self.new.ring ≡ vec_capacity self.old.ring }
     {
         let mut steps = 0;
@@ -129,8 +129,8 @@ impl<K: Key + Copy> State<K> {
     }
 
     fn promote(&mut self, m: u32, at: usize, e: Entry<K>)
-        requires found { Found meaning Free self.old.ring.items at e }
-        ensures step { machine_of meaning self.new ≡ rules.promote m (entry_of meaning e) (machine_of meaning self.old) }
+        requires found { Found K.Key.meaning Free self.old.ring.items at e }
+        ensures step { machine_of K.Key.meaning self.new ≡ rules.promote m (entry_of K.Key.meaning e) (machine_of K.Key.meaning self.old) }
         ensures memory { vec_capacity self.new.ring ≡ vec_capacity self.old.ring }
     {
         lists::to_head(&mut self.ring, at, Some(entries::promote(e)));
@@ -138,16 +138,16 @@ impl<K: Key + Copy> State<K> {
     }
 
     fn retest(&mut self, at: usize, e: Entry<K>)
-        requires found { Found meaning Free self.old.ring.items at e }
-        ensures step { machine_of meaning self.new ≡ rules.retest (entry_of meaning e) (machine_of meaning self.old) }
+        requires found { Found K.Key.meaning Free self.old.ring.items at e }
+        ensures step { machine_of K.Key.meaning self.new ≡ rules.retest (entry_of K.Key.meaning e) (machine_of K.Key.meaning self.old) }
         ensures memory { vec_capacity self.new.ring ≡ vec_capacity self.old.ring }
     {
         lists::to_head(&mut self.ring, at, Some(entries::retest(e)));
     }
 
     fn evict(&mut self, at: usize, e: Entry<K>)
-        requires found { Found meaning Free self.old.ring.items at e }
-        ensures step { machine_of meaning self.new ≡ rules.evict (machine_of meaning self.old) }
+        requires found { Found K.Key.meaning Free self.old.ring.items at e }
+        ensures step { machine_of K.Key.meaning self.new ≡ rules.evict (machine_of K.Key.meaning self.old) }
         ensures memory { vec_capacity self.new.ring ≡ vec_capacity self.old.ring }
     {
         lists::put(&mut self.ring, at, entries::after_eviction(e));
@@ -156,9 +156,9 @@ impl<K: Key + Copy> State<K> {
     /// One turn of a cold run: a hot step where there is no candidate, else a cold step with the run that follows it.
     fn cold_turn(&mut self, m: u32) -> Turn<K>
         requires frames { m ≤ 4096 }
-        requires facts { Mid m None (machine_of meaning self.old) }
-        requires unlent { 1 ≤ count idle (machine_of meaning self.old).ring }
-        ensures turned { Turned meaning m (machine_of meaning self.old) result (machine_of meaning self.new) }
+        requires facts { Mid m None (machine_of K.Key.meaning self.old) }
+        requires unlent { 1 ≤ count idle (machine_of K.Key.meaning self.old).ring }
+        ensures turned { Turned K.Key.meaning m (machine_of K.Key.meaning self.old) result (machine_of K.Key.meaning self.new) }
         ensures memory { vec_capacity self.new.ring ≡ vec_capacity self.old.ring }
     {
         let Some(spot) = lists::find(&self.ring, Question::Free) else {
@@ -187,9 +187,9 @@ impl<K: Key + Copy> State<K> {
     /// Turns until a frame is freed.
     fn cold_run(&mut self, m: u32) -> Sent<K>
         requires frames { m ≤ 4096 }
-        requires facts { Mid m None (machine_of meaning self.old) }
-        requires unlent { 1 ≤ count idle (machine_of meaning self.old).ring }
-        ensures run { rules.ColdRun m (machine_of meaning self.old) (steps_of result.steps) (entry_of meaning result.victim) (machine_of meaning self.new) }
+        requires facts { Mid m None (machine_of K.Key.meaning self.old) }
+        requires unlent { 1 ≤ count idle (machine_of K.Key.meaning self.old).ring }
+        ensures run { rules.ColdRun m (machine_of K.Key.meaning self.old) (steps_of result.steps) (entry_of K.Key.meaning result.victim) (machine_of K.Key.meaning self.new) }
         ensures memory { vec_capacity self.new.ring ≡ vec_capacity self.old.ring }
     {
         let mut cold = 0;
@@ -217,9 +217,9 @@ impl<K: Key + Copy> State<K> {
     /// The frame for a fault: the next unused one, else the one that a cold run frees.
     pub(crate) fn room(&mut self, m: u32) -> Room<K>
         requires frames { m ≤ 4096 }
-        requires facts { Mid m None (machine_of meaning self.old) }
-        requires unlent { nat_lt self.old.used m ≡ false → 1 ≤ count idle (machine_of meaning self.old).ring }
-        ensures found { Roomed meaning m (machine_of meaning self.old) result (machine_of meaning self.new) }
+        requires facts { Mid m None (machine_of K.Key.meaning self.old) }
+        requires unlent { nat_lt self.old.used m ≡ false → 1 ≤ count idle (machine_of K.Key.meaning self.old).ring }
+        ensures found { Roomed K.Key.meaning m (machine_of K.Key.meaning self.old) result (machine_of K.Key.meaning self.new) }
         ensures memory { vec_capacity self.new.ring ≡ vec_capacity self.old.ring }
     {
         if self.used < m {
@@ -249,7 +249,7 @@ impl<K: Key + Copy> State<K> {
     /// A page enters at the head.
     pub(crate) fn enter(&mut self, key: K, hot: bool, frame: FrameNo)
         requires { vec_len self.old.ring < vec_capacity self.old.ring }
-        ensures step { machine_of meaning self.new ≡ calls.enter (meaning key) hot frame.0 (machine_of meaning self.old) }
+        ensures step { machine_of K.Key.meaning self.new ≡ calls.enter (K.Key.meaning key) hot frame.0 (machine_of K.Key.meaning self.old) }
         ensures memory { vec_capacity self.new.ring ≡ vec_capacity self.old.ring }
     {
         self.ring.push_reserved(entries::fresh(key, hot, frame));

@@ -41,7 +41,7 @@ pub enum OpenError {
 impl<K: Key + Copy> Plain<K> {
     /// Opens an empty simulator, and takes the memory for every entry that there can be.
     pub fn open(heap: Global, frames: u32) -> Result<Plain<K>, OpenError>
-        ensures { Opens meaning frames result }
+        ensures { Opens K.Key.meaning frames result }
     {
         if frames < 2 || 4096 < frames {
             return Err(OpenError::FrameCount);
@@ -61,7 +61,7 @@ impl<K: Key + Copy> Plain<K> {
 
     /// Borrows a key. A refusal alters nothing.
     pub fn borrow(&mut self, key: K) -> Result<Granted<K>, Refusal>
-        ensures borrowed { rules.Borrow self.old.frames (meaning key) (machine_of meaning self.old.state) (answer_of meaning result) (machine_of meaning self.new.state) }
+        ensures borrowed { rules.Borrow self.old.frames (K.Key.meaning key) (machine_of K.Key.meaning self.old.state) (answer_of K.Key.meaning result) (machine_of K.Key.meaning self.new.state) }
         ensures frames { self.new.frames ≡ self.old.frames }
     {
         self.state.borrow(self.frames, key)
@@ -69,8 +69,8 @@ impl<K: Key + Copy> Plain<K> {
 
     /// Takes one loan off a frame. Where the frame carries none, the answer is no and nothing changes.
     pub fn give_back(&mut self, frame: FrameNo) -> bool
-        ensures carried { result ≡ nat_lt 0 (rules.carries frame.0 (machine_of meaning self.old.state)) }
-        ensures returned { machine_of meaning self.new.state ≡ rules.give_back frame.0 (machine_of meaning self.old.state) }
+        ensures carried { result ≡ nat_lt 0 (rules.carries frame.0 (machine_of K.Key.meaning self.old.state)) }
+        ensures returned { machine_of K.Key.meaning self.new.state ≡ rules.give_back frame.0 (machine_of K.Key.meaning self.old.state) }
         ensures frames { self.new.frames ≡ self.old.frames }
     {
         self.state.give_back(frame)
@@ -78,7 +78,7 @@ impl<K: Key + Copy> Plain<K> {
 
     /// Sets or clears the altered mark of the page in a frame.
     pub fn mark_page(&mut self, frame: FrameNo, altered: bool)
-        ensures marked { machine_of meaning self.new.state ≡ rules.mark_page frame.0 altered (machine_of meaning self.old.state) }
+        ensures marked { machine_of K.Key.meaning self.new.state ≡ rules.mark_page frame.0 altered (machine_of K.Key.meaning self.old.state) }
         ensures frames { self.new.frames ≡ self.old.frames }
     {
         self.state.mark_page(frame, altered)
@@ -86,7 +86,7 @@ impl<K: Key + Copy> Plain<K> {
 
     /// The frame that the key's page lies in, if it is resident.
     pub fn frame_of(&self, key: K) -> Option<FrameNo>
-        ensures { frame_of result ≡ held_in (first (named (meaning key)) (machine_of meaning self.now.state).ring) }
+        ensures { frame_of result ≡ held_in (first (named (K.Key.meaning key)) (machine_of K.Key.meaning self.now.state).ring) }
     {
         match lists::find(&self.state.ring, Question::Named(key)) {
             Some(spot) => spot.entry.frame,

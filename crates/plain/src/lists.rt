@@ -19,7 +19,7 @@ pub(crate) struct Spot<K> {
 
 /// The place of the first entry that passes, or the length of the list where none does.
 fn position<K: Key + Copy>(ring: &Vec<Entry<K>>, question: Question<K>) -> usize
-    ensures first { result ≡ place (asks meaning question) (entries_of meaning ring.now.items) }
+    ensures first { result ≡ place (asks K.Key.meaning question) (entries_of K.Key.meaning ring.now.items) }
     ensures within { result ≤ vec_len ring.now }
 {
     let mut i = 0;
@@ -34,7 +34,7 @@ fn position<K: Key + Copy>(ring: &Vec<Entry<K>>, question: Question<K>) -> usize
 
 /// The first entry that passes, and its place.
 pub(crate) fn find<K: Key + Copy>(ring: &Vec<Entry<K>>, question: Question<K>) -> Option<Spot<K>>
-    ensures { Finds meaning question ring.now.items result }
+    ensures { Finds K.Key.meaning question ring.now.items result }
 {
     let at = position(ring, question);
     if at == ring.len() {
@@ -46,7 +46,7 @@ pub(crate) fn find<K: Key + Copy>(ring: &Vec<Entry<K>>, question: Question<K>) -
 
 /// How many entries pass.
 pub(crate) fn tally<K: Key + Copy>(ring: &Vec<Entry<K>>, question: Question<K>) -> usize
-    ensures { result ≡ count (asks meaning question) (entries_of meaning ring.now.items) }
+    ensures { result ≡ count (asks K.Key.meaning question) (entries_of K.Key.meaning ring.now.items) }
 {
     let mut n = 0;
     let mut i = 0;

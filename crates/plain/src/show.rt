@@ -28,7 +28,7 @@ pub struct Letters {
 impl<K: Key> Entry<K> {
     /// What the ring shows of the entry.
     pub fn letters(&self) -> Letters
-        ensures { seen_of (meaning self.now.key) result ≡ seen (entry_of meaning self.now) }
+        ensures { seen_of (K.Key.meaning self.now.key) result ≡ seen (entry_of K.Key.meaning self.now) }
     {
         let letter = match (self.hot, self.frame) {
             (true, _) => Letter::Hot,

@@ -38,9 +38,9 @@ impl Pool {
         store: &mut S,
         key: K,
     ) -> Result<(Loan, Report<K>), PoolFault>
-        requires { Supposed meaning (holding self.old frames.old cells.old (meant store.old)) }
-        ensures asked { Asked meaning (to_borrow (meaning key)) (holding self.old frames.old cells.old (meant store.old)) (lent_by meaning result) (holding self.new frames.new cells.new (meant store.new)) }
-        ensures loans { (f : ℕ) → carried meaning self.new cells.new f ≡ lent_at result f (carried meaning self.old cells.old f) }
+        requires { Supposed K.Key.meaning (holding self.old frames.old cells.old (meant store.old)) }
+        ensures asked { Asked K.Key.meaning (to_borrow (K.Key.meaning key)) (holding self.old frames.old cells.old (meant store.old)) (lent_by K.Key.meaning result) (holding self.new frames.new cells.new (meant store.new)) }
+        ensures loans { (f : ℕ) → carried K.Key.meaning self.new cells.new f ≡ lent_at result f (carried K.Key.meaning self.old cells.old f) }
         ensures own { Own self.old result }
     {
         let size = store.page_size();
@@ -56,8 +56,8 @@ impl Pool {
         store: &S,
         loan: &Loan,
     ) -> Result<&'a [u8], PoolFault>
-        requires { Supposed meaning (holding self.now frames.now cells.now (meant store.now)) }
-        ensures { Asked meaning (to_view (loan_in loan.now)) (holding self.now frames.now cells.now (meant store.now)) (shown_by result) (holding self.now frames.now cells.now (meant store.now)) }
+        requires { Supposed K.Key.meaning (holding self.now frames.now cells.now (meant store.now)) }
+        ensures { Asked K.Key.meaning (to_view (loan_in loan.now)) (holding self.now frames.now cells.now (meant store.now)) (shown_by result) (holding self.now frames.now cells.now (meant store.now)) }
     {
         let size = store.page_size();
         self.fits(size, frames, cells)?;
@@ -74,9 +74,9 @@ impl Pool {
         offset: usize,
         bytes: &[u8],
     ) -> Result<(), PoolFault>
-        requires { Supposed meaning (holding self.old frames.old cells.old (meant store.now)) }
-        ensures asked { Asked meaning (to_alter (loan_in loan.now) offset bytes.now) (holding self.old frames.old cells.old (meant store.now)) (altered_by result) (holding self.new frames.new cells.new (meant store.now)) }
-        ensures loans { (f : ℕ) → carried meaning self.new cells.new f ≡ carried meaning self.old cells.old f }
+        requires { Supposed K.Key.meaning (holding self.old frames.old cells.old (meant store.now)) }
+        ensures asked { Asked K.Key.meaning (to_alter (loan_in loan.now) offset bytes.now) (holding self.old frames.old cells.old (meant store.now)) (altered_by result) (holding self.new frames.new cells.new (meant store.now)) }
+        ensures loans { (f : ℕ) → carried K.Key.meaning self.new cells.new f ≡ carried K.Key.meaning self.old cells.old f }
     {
         let size = store.page_size();
         self.fits(size, frames, cells)?;
@@ -91,10 +91,10 @@ impl Pool {
         store: &S,
         loan: Loan,
     ) -> Result<(), (PoolFault, Loan)>
-        requires { Supposed meaning (holding self.old frames.now cells.old (meant store.now)) }
-        ensures asked { Asked meaning (to_return (loan_in loan)) (holding self.old frames.now cells.old (meant store.now)) (returned_by result) (holding self.new frames.now cells.new (meant store.now)) }
-        ensures loans { (f : ℕ) → carried meaning self.new cells.new f ≡ returned_at loan result f (carried meaning self.old cells.old f) }
-        ensures granted { sizes_of (holding self.old frames.now cells.old (meant store.now)) ≡ None → loan.pool ≡ self.old.number → 1 ≤ carried meaning self.old cells.old loan.frame.0 → is_ok result ≡ true }
+        requires { Supposed K.Key.meaning (holding self.old frames.now cells.old (meant store.now)) }
+        ensures asked { Asked K.Key.meaning (to_return (loan_in loan)) (holding self.old frames.now cells.old (meant store.now)) (returned_by result) (holding self.new frames.now cells.new (meant store.now)) }
+        ensures loans { (f : ℕ) → carried K.Key.meaning self.new cells.new f ≡ returned_at loan result f (carried K.Key.meaning self.old cells.old f) }
+        ensures granted { sizes_of (holding self.old frames.now cells.old (meant store.now)) ≡ None → loan.pool ≡ self.old.number → 1 ≤ carried K.Key.meaning self.old cells.old loan.frame.0 → is_ok result ≡ true }
         ensures back { IfErr result (λ p. p.1 ≡ loan) }
     {
         let size = store.page_size();
@@ -111,9 +111,9 @@ impl Pool {
         cells: &mut [Cell<Entry<K>>],
         store: &mut S,
     ) -> Result<u32, PoolFault>
-        requires { Supposed meaning (holding self.old frames.now cells.old (meant store.old)) }
-        ensures asked { Asked meaning to_flush (holding self.old frames.now cells.old (meant store.old)) (flushed_by result) (holding self.new frames.now cells.new (meant store.new)) }
-        ensures loans { (f : ℕ) → carried meaning self.new cells.new f ≡ carried meaning self.old cells.old f }
+        requires { Supposed K.Key.meaning (holding self.old frames.now cells.old (meant store.old)) }
+        ensures asked { Asked K.Key.meaning to_flush (holding self.old frames.now cells.old (meant store.old)) (flushed_by result) (holding self.new frames.now cells.new (meant store.new)) }
+        ensures loans { (f : ℕ) → carried K.Key.meaning self.new cells.new f ≡ carried K.Key.meaning self.old cells.old f }
     {
         let size = store.page_size();
         self.fits(size, frames, cells)?;

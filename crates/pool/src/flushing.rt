@@ -31,11 +31,11 @@ fn flush_frame<K: Key + Copy, S: Store<K>>(
     requires size { size ≡ (meant store.old).size }
     requires part { frame.0 * size + size ≤ length frames.now }
     requires stands { Stands cells.old ring.old.table }
-    requires takes { TakesFrom (rules.occupant frame.0 (machine_of meaning cells.old ring.old)) (meant store.old) }
+    requires takes { TakesFrom (rules.occupant frame.0 (machine_of K.Key.meaning cells.old ring.old)) (meant store.old) }
     ensures stands { Stands cells.new ring.new.table }
-    ensures written { result ≡ one (rules.altered_at (rules.occupant frame.0 (machine_of meaning cells.old ring.old))) }
-    ensures marks { machine_of meaning cells.new ring.new ≡ (if rules.altered_at (rules.occupant frame.0 (machine_of meaning cells.old ring.old)) then rules.mark_page frame.0 false (machine_of meaning cells.old ring.old) else machine_of meaning cells.old ring.old) }
-    ensures store { meant store.new ≡ sent_out (part_of size frames.now frame.0) (rules.occupant frame.0 (machine_of meaning cells.old ring.old)) (meant store.old) }
+    ensures written { result ≡ one (rules.altered_at (rules.occupant frame.0 (machine_of K.Key.meaning cells.old ring.old))) }
+    ensures marks { machine_of K.Key.meaning cells.new ring.new ≡ (if rules.altered_at (rules.occupant frame.0 (machine_of K.Key.meaning cells.old ring.old)) then rules.mark_page frame.0 false (machine_of K.Key.meaning cells.old ring.old) else machine_of K.Key.meaning cells.old ring.old) }
+    ensures store { meant store.new ≡ sent_out (part_of size frames.now frame.0) (rules.occupant frame.0 (machine_of K.Key.meaning cells.old ring.old)) (meant store.old) }
 {
     let Some(entry) = ring::occupant(cells, ring, frame) else {
         return 0;
@@ -62,9 +62,9 @@ pub(crate) fn write_all<K: Key + Copy, S: Store<K>>(
 ) -> u32
     requires size { size ≡ (meant store.old).size }
     requires fits { sizes_of (holding pool.old frames.now cells.old (meant store.old)) ≡ None }
-    requires ready { Ready meaning (holding pool.old frames.now cells.old (meant store.old)) }
+    requires ready { Ready K.Key.meaning (holding pool.old frames.now cells.old (meant store.old)) }
     ensures stands { Stands cells.new pool.new.ring.table }
-    ensures served { Serves (call_of to_flush frames.now cells.old) (state meaning (holding pool.old frames.now cells.old (meant store.old))) (wrote result) (state meaning (holding pool.new frames.now cells.new (meant store.new))) }
+    ensures served { Serves (call_of to_flush frames.now cells.old) (state K.Key.meaning (holding pool.old frames.now cells.old (meant store.old))) (wrote result) (state K.Key.meaning (holding pool.new frames.now cells.new (meant store.new))) }
     ensures number { pool.new.number ≡ pool.old.number }
     ensures count { pool.new.frames ≡ pool.old.frames }
 {

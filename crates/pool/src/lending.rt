@@ -22,7 +22,7 @@ use stores::{Store, StoreFault};
 
 // 9: does the store hold the key?
 fn held_by<K: Key, S: Store<K>>(store: &S, key: &K) -> Result<(), StoreFault>
-    ensures { stores.refused result ≡ (if held (meant store.now) (meaning key.now) then None else Some 9) }
+    ensures { stores.refused result ≡ (if held (meant store.now) (K.Key.meaning key.now) then None else Some 9) }
 {
     if store.holds(key) {
         Ok(())
@@ -45,7 +45,7 @@ fn unsealed<K: Key, S: Store<K>>(store: &S) -> Result<(), StoreFault>
 // 12: has the loan this pool's number, and does its frame carry a loan?
 fn is_good<K: Key + Copy>(pool: &Pool, cells: &[Cell<Entry<K>>], loan: &Loan) -> bool
     requires { Stands cells.now pool.now.ring.table }
-    ensures { result ≡ (loan.now.pool.0 == pool.now.number.0 && nat_lt 0 (carried meaning pool.now cells.now loan.now.frame.0)) }
+    ensures { result ≡ (loan.now.pool.0 == pool.now.number.0 && nat_lt 0 (carried K.Key.meaning pool.now cells.now loan.now.frame.0)) }
 {
     loan.pool.0 == pool.number.0 && ring::loans_at(cells, &pool.ring, loan.frame) > 0
 }
@@ -87,9 +87,9 @@ pub(crate) fn lend<K: Key + Copy, S: Store<K>>(
 ) -> Result<(Loan, Report<K>), PoolFault>
     requires size { size ≡ (meant store.old).size }
     requires fits { sizes_of (holding pool.old frames.old cells.old (meant store.old)) ≡ None }
-    requires ready { Ready meaning (holding pool.old frames.old cells.old (meant store.old)) }
+    requires ready { Ready K.Key.meaning (holding pool.old frames.old cells.old (meant store.old)) }
     ensures stands { Stands cells.new pool.new.ring.table }
-    ensures served { Serves (call_of (to_borrow (meaning key)) frames.old cells.old) (state meaning (holding pool.old frames.old cells.old (meant store.old))) (lent_by meaning result) (state meaning (holding pool.new frames.new cells.new (meant store.new))) }
+    ensures served { Serves (call_of (to_borrow (K.Key.meaning key)) frames.old cells.old) (state K.Key.meaning (holding pool.old frames.old cells.old (meant store.old))) (lent_by K.Key.meaning result) (state K.Key.meaning (holding pool.new frames.new cells.new (meant store.new))) }
     ensures own { Own pool.old result }
     ensures number { pool.new.number ≡ pool.old.number }
     ensures count { pool.new.frames ≡ pool.old.frames }
@@ -116,8 +116,8 @@ pub(crate) fn look<'a, K: Key + Copy, S: Store<K>>(
 ) -> Result<&'a [u8], PoolFault>
     requires size { size ≡ (meant store.now).size }
     requires fits { sizes_of (holding pool.now frames.now cells.now (meant store.now)) ≡ None }
-    requires ready { Ready meaning (holding pool.now frames.now cells.now (meant store.now)) }
-    ensures { Serves (call_of (to_view (loan_in loan.now)) frames.now cells.now) (state meaning (holding pool.now frames.now cells.now (meant store.now))) (shown_by result) (state meaning (holding pool.now frames.now cells.now (meant store.now))) }
+    requires ready { Ready K.Key.meaning (holding pool.now frames.now cells.now (meant store.now)) }
+    ensures { Serves (call_of (to_view (loan_in loan.now)) frames.now cells.now) (state K.Key.meaning (holding pool.now frames.now cells.now (meant store.now))) (shown_by result) (state K.Key.meaning (holding pool.now frames.now cells.now (meant store.now))) }
 {
     if !is_good(pool, cells, loan) {
         return Err(PoolFault::NotOnLoan);
@@ -148,9 +148,9 @@ pub(crate) fn change<K: Key + Copy, S: Store<K>>(
 ) -> Result<(), PoolFault>
     requires size { size ≡ (meant store.now).size }
     requires fits { sizes_of (holding pool.old frames.old cells.old (meant store.now)) ≡ None }
-    requires ready { Ready meaning (holding pool.old frames.old cells.old (meant store.now)) }
+    requires ready { Ready K.Key.meaning (holding pool.old frames.old cells.old (meant store.now)) }
     ensures stands { Stands cells.new pool.new.ring.table }
-    ensures served { Serves (call_of (to_alter (loan_in loan.now) offset bytes.now) frames.old cells.old) (state meaning (holding pool.old frames.old cells.old (meant store.now))) (altered_by result) (state meaning (holding pool.new frames.new cells.new (meant store.now))) }
+    ensures served { Serves (call_of (to_alter (loan_in loan.now) offset bytes.now) frames.old cells.old) (state K.Key.meaning (holding pool.old frames.old cells.old (meant store.now))) (altered_by result) (state K.Key.meaning (holding pool.new frames.new cells.new (meant store.now))) }
     ensures number { pool.new.number ≡ pool.old.number }
     ensures count { pool.new.frames ≡ pool.old.frames }
 {
@@ -175,9 +175,9 @@ pub(crate) fn take_back<K: Key + Copy, S: Store<K>>(
     loan: Loan,
 ) -> Result<(), (PoolFault, Loan)>
     requires fits { sizes_of (holding pool.old frames.now cells.old (meant store.now)) ≡ None }
-    requires ready { Ready meaning (holding pool.old frames.now cells.old (meant store.now)) }
+    requires ready { Ready K.Key.meaning (holding pool.old frames.now cells.old (meant store.now)) }
     ensures stands { Stands cells.new pool.new.ring.table }
-    ensures served { Serves (call_of (to_return (loan_in loan)) frames.now cells.old) (state meaning (holding pool.old frames.now cells.old (meant store.now))) (returned_by result) (state meaning (holding pool.new frames.now cells.new (meant store.now))) }
+    ensures served { Serves (call_of (to_return (loan_in loan)) frames.now cells.old) (state K.Key.meaning (holding pool.old frames.now cells.old (meant store.now))) (returned_by result) (state K.Key.meaning (holding pool.new frames.now cells.new (meant store.now))) }
     ensures back { IfErr result (λ p. p.1 ≡ loan) }
     ensures number { pool.new.number ≡ pool.old.number }
     ensures count { pool.new.frames ≡ pool.old.frames }

@@ -54,10 +54,10 @@ impl Pool {
         cells: &mut [Cell<Entry<K>>],
     ) -> Pool
         requires { open_refusal (meant store.now).size m (length frames.now) (length cells.old) ≡ None }
-        ensures opened { Opened meaning number.0 m frames.now (meant store.now) (holding result frames.now cells.new (meant store.now)) }
+        ensures opened { Opened K.Key.meaning number.0 m frames.now (meant store.now) (holding result frames.now cells.new (meant store.now)) }
         ensures number { result.number ≡ number }
         ensures count { result.frames ≡ m }
-        ensures loans { (f : ℕ) → carried meaning result cells.new f ≡ 0 }
+        ensures loans { (f : ℕ) → carried K.Key.meaning result cells.new f ≡ 0 }
     {
         // with the answer comes the law that every page of the store has P bytes
         let _size = store.page_size();

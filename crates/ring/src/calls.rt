@@ -70,7 +70,7 @@ impl Refusal {
 /// The entry of a key: what a search of the whole ring from the tail finds.
 pub fn find<K: Key + Copy>(cells: &[Cell<Entry<K>>], ring: &Ring, key: &K) -> Option<Entry<K>>
     requires { Stands cells.now ring.now.table }
-    ensures { found_in meaning result ≡ first (named (meaning key.now)) (machine_of meaning cells.now ring.now).ring }
+    ensures { found_in K.Key.meaning result ≡ first (named (K.Key.meaning key.now)) (machine_of K.Key.meaning cells.now ring.now).ring }
 {
     match rows::find(cells, &ring.table, key) {
         Some(row) => Some(row.entry),
@@ -85,7 +85,7 @@ pub fn occupant<K: Key + Copy>(
     frame: FrameNo,
 ) -> Option<Entry<K>>
     requires { Stands cells.now ring.now.table }
-    ensures { found_in meaning result ≡ rules.occupant frame.0 (machine_of meaning cells.now ring.now) }
+    ensures { found_in K.Key.meaning result ≡ rules.occupant frame.0 (machine_of K.Key.meaning cells.now ring.now) }
 {
     match rows::by_frame(cells, &ring.table, frame) {
         Some(row) => Some(row.entry),
@@ -96,7 +96,7 @@ pub fn occupant<K: Key + Copy>(
 /// The loans that a frame carries.
 pub fn loans_at<K: Key + Copy>(cells: &[Cell<Entry<K>>], ring: &Ring, frame: FrameNo) -> u8
     requires { Stands cells.now ring.now.table }
-    ensures { result ≡ rules.carries frame.0 (machine_of meaning cells.now ring.now) }
+    ensures { result ≡ rules.carries frame.0 (machine_of K.Key.meaning cells.now ring.now) }
 {
     match occupant(cells, ring, frame) {
         Some(e) => e.loans,
@@ -112,9 +112,9 @@ pub fn give_back<K: Key + Copy>(
 ) -> bool
     requires { Stands cells.old ring.old.table }
     ensures stands { Stands cells.new ring.new.table }
-    ensures carried { result ≡ nat_lt 0 (rules.carries frame.0 (machine_of meaning cells.old ring.old)) }
-    ensures step { machine_of meaning cells.new ring.new ≡ rules.give_back frame.0 (machine_of meaning cells.old ring.old) }
-    ensures facts { (m : ℕ) → Well m (machine_of meaning cells.old ring.old) → Well m (machine_of meaning cells.new ring.new) }
+    ensures carried { result ≡ nat_lt 0 (rules.carries frame.0 (machine_of K.Key.meaning cells.old ring.old)) }
+    ensures step { machine_of K.Key.meaning cells.new ring.new ≡ rules.give_back frame.0 (machine_of K.Key.meaning cells.old ring.old) }
+    ensures facts { (m : ℕ) → Well m (machine_of K.Key.meaning cells.old ring.old) → Well m (machine_of K.Key.meaning cells.new ring.new) }
 {
     let Some(row) = rows::by_frame(cells, &ring.table, frame) else {
         return false;
@@ -137,8 +137,8 @@ pub fn mark_page<K: Key + Copy>(
 )
     requires { Stands cells.old ring.old.table }
     ensures stands { Stands cells.new ring.new.table }
-    ensures step { machine_of meaning cells.new ring.new ≡ rules.mark_page frame.0 altered (machine_of meaning cells.old ring.old) }
-    ensures facts { (m : ℕ) → Well m (machine_of meaning cells.old ring.old) → Well m (machine_of meaning cells.new ring.new) }
+    ensures step { machine_of K.Key.meaning cells.new ring.new ≡ rules.mark_page frame.0 altered (machine_of K.Key.meaning cells.old ring.old) }
+    ensures facts { (m : ℕ) → Well m (machine_of K.Key.meaning cells.old ring.old) → Well m (machine_of K.Key.meaning cells.new ring.new) }
 {
     let Some(row) = rows::by_frame(cells, &ring.table, frame) else {
         return;
@@ -153,7 +153,7 @@ fn touch<K: Key + Copy>(cells: &mut [Cell<Entry<K>>], ring: &mut Ring, row: Row<
     requires there { Has (rows_in cells.old ring.old.table) row }
     requires loans { row.entry.loans < 255 }
     ensures stands { Stands cells.new ring.new.table }
-    ensures step { (k : List ℕ) → first_by (λ e. same_list k (meaning e.key)) (rows_in cells.old ring.old.table) ≡ Some row → machine_of meaning cells.new ring.new ≡ rules.hit k (machine_of meaning cells.old ring.old) }
+    ensures step { (k : List ℕ) → first_by (λ e. same_list k (K.Key.meaning e.key)) (rows_in cells.old ring.old.table) ≡ Some row → machine_of K.Key.meaning cells.new ring.new ≡ rules.hit k (machine_of K.Key.meaning cells.old ring.old) }
 {
     let e = row.entry;
     let bit = true;
@@ -166,7 +166,7 @@ fn take_out<K: Key + Copy>(cells: &mut [Cell<Entry<K>>], ring: &mut Ring, m: u32
     requires stands { Stands cells.old ring.old.table }
     requires there { Has (rows_in cells.old ring.old.table) row }
     ensures stands { Stands cells.new ring.new.table }
-    ensures step { (k : List ℕ) → first_by (λ e. same_list k (meaning e.key)) (rows_in cells.old ring.old.table) ≡ Some row → machine_of meaning cells.new ring.new ≡ rules.recalled m k (machine_of meaning cells.old ring.old) }
+    ensures step { (k : List ℕ) → first_by (λ e. same_list k (K.Key.meaning e.key)) (rows_in cells.old ring.old.table) ≡ Some row → machine_of K.Key.meaning cells.new ring.new ≡ rules.recalled m k (machine_of K.Key.meaning cells.old ring.old) }
 {
     rows::take_out(cells, &mut ring.table, row);
     ring.cold = hands::raise(m, ring.cold);
@@ -181,11 +181,11 @@ fn enter<K: Key + Copy>(
     frame: FrameNo,
 )
     requires stands { Stands cells.old ring.old.table }
-    requires room { length (machine_of meaning cells.old ring.old).ring < length cells.old }
+    requires room { length (machine_of K.Key.meaning cells.old ring.old).ring < length cells.old }
     requires slot { frame.0 < length cells.old }
-    requires vacant { first (lies_in frame.0) (machine_of meaning cells.old ring.old).ring ≡ None }
+    requires vacant { first (lies_in frame.0) (machine_of K.Key.meaning cells.old ring.old).ring ≡ None }
     ensures stands { Stands cells.new ring.new.table }
-    ensures step { machine_of meaning cells.new ring.new ≡ rules.enter (meaning key) hot frame.0 (machine_of meaning cells.old ring.old) }
+    ensures step { machine_of K.Key.meaning cells.new ring.new ≡ rules.enter (K.Key.meaning key) hot frame.0 (machine_of K.Key.meaning cells.old ring.old) }
 {
     let bit = false;
     let new = Entry {
@@ -203,7 +203,7 @@ fn enter<K: Key + Copy>(
 /// 11: whether no frame is unused and every resident page has a loan.
 fn is_full<K: Key>(cells: &[Cell<Entry<K>>], ring: &Ring, m: u32) -> bool
     requires { Stands cells.now ring.now.table }
-    ensures { rules.full m (machine_of meaning cells.now ring.now) ≡ (if result then Some 11 else None) }
+    ensures { rules.full m (machine_of K.Key.meaning cells.now ring.now) ≡ (if result then Some 11 else None) }
 {
     if ring.used < m {
         return false;
@@ -221,11 +221,11 @@ fn cold_fault<K: Key + Copy>(
     requires frames { m ≤ 4096 }
     requires memory { 2 * m ≤ length cells.old }
     requires stands { Stands cells.old ring.old.table }
-    requires facts { Mid m None (machine_of meaning cells.old ring.old) }
-    requires outside { first (named (meaning key)) (machine_of meaning cells.old ring.old).ring ≡ None }
+    requires facts { Mid m None (machine_of K.Key.meaning cells.old ring.old) }
+    requires outside { first (named (K.Key.meaning key)) (machine_of K.Key.meaning cells.old ring.old).ring ≡ None }
     ensures stands { Stands cells.new ring.new.table }
-    ensures borrowed { rules.Borrow m (meaning key) (machine_of meaning cells.old ring.old) (answer_of meaning result) (machine_of meaning cells.new ring.new) }
-    ensures written { Written (machine_of meaning cells.old ring.old) result }
+    ensures borrowed { rules.Borrow m (K.Key.meaning key) (machine_of K.Key.meaning cells.old ring.old) (answer_of K.Key.meaning result) (machine_of K.Key.meaning cells.new ring.new) }
+    ensures written { Written (machine_of K.Key.meaning cells.old ring.old) result }
 {
     if is_full(cells, ring, m) {
         return Err(Refusal::NoFrame);
@@ -255,12 +255,12 @@ fn test_fault<K: Key + Copy>(
     requires frames { m ≤ 4096 }
     requires memory { 2 * m ≤ length cells.old }
     requires stands { Stands cells.old ring.old.table }
-    requires facts { Mid m None (machine_of meaning cells.old ring.old) }
-    requires found { first_by (λ e. same_list (meaning key) (meaning e.key)) (rows_in cells.old ring.old.table) ≡ Some row }
+    requires facts { Mid m None (machine_of K.Key.meaning cells.old ring.old) }
+    requires found { first_by (λ e. same_list (K.Key.meaning key) (K.Key.meaning e.key)) (rows_in cells.old ring.old.table) ≡ Some row }
     requires away { row.entry.frame ≡ None }
     ensures stands { Stands cells.new ring.new.table }
-    ensures borrowed { rules.Borrow m (meaning key) (machine_of meaning cells.old ring.old) (answer_of meaning result) (machine_of meaning cells.new ring.new) }
-    ensures written { Written (machine_of meaning cells.old ring.old) result }
+    ensures borrowed { rules.Borrow m (K.Key.meaning key) (machine_of K.Key.meaning cells.old ring.old) (answer_of K.Key.meaning result) (machine_of K.Key.meaning cells.new ring.new) }
+    ensures written { Written (machine_of K.Key.meaning cells.old ring.old) result }
 {
     if is_full(cells, ring, m) {
         return Err(Refusal::NoFrame);
@@ -296,12 +296,12 @@ fn hit<K: Key + Copy>(
     frame: FrameNo,
 ) -> Result<Granted<K>, Refusal>
     requires stands { Stands cells.old ring.old.table }
-    requires facts { Mid m None (machine_of meaning cells.old ring.old) }
-    requires found { first_by (λ e. same_list (meaning key) (meaning e.key)) (rows_in cells.old ring.old.table) ≡ Some row }
+    requires facts { Mid m None (machine_of K.Key.meaning cells.old ring.old) }
+    requires found { first_by (λ e. same_list (K.Key.meaning key) (K.Key.meaning e.key)) (rows_in cells.old ring.old.table) ≡ Some row }
     requires here { row.entry.frame ≡ Some frame }
     ensures stands { Stands cells.new ring.new.table }
-    ensures borrowed { rules.Borrow m (meaning key) (machine_of meaning cells.old ring.old) (answer_of meaning result) (machine_of meaning cells.new ring.new) }
-    ensures written { Written (machine_of meaning cells.old ring.old) result }
+    ensures borrowed { rules.Borrow m (K.Key.meaning key) (machine_of K.Key.meaning cells.old ring.old) (answer_of K.Key.meaning result) (machine_of K.Key.meaning cells.new ring.new) }
+    ensures written { Written (machine_of K.Key.meaning cells.old ring.old) result }
 {
     if row.entry.loans == 255 {
         return Err(Refusal::TooManyLoans);
@@ -330,11 +330,11 @@ pub fn borrow<K: Key + Copy>(
     requires frames { m ≤ 4096 }
     requires memory { 2 * m ≤ length cells.old }
     requires stands { Stands cells.old ring.old.table }
-    requires facts { Well m (machine_of meaning cells.old ring.old) }
+    requires facts { Well m (machine_of K.Key.meaning cells.old ring.old) }
     ensures stands { Stands cells.new ring.new.table }
-    ensures borrowed { rules.Borrow m (meaning key) (machine_of meaning cells.old ring.old) (answer_of meaning result) (machine_of meaning cells.new ring.new) }
-    ensures written { Written (machine_of meaning cells.old ring.old) result }
-    ensures facts { Well m (machine_of meaning cells.new ring.new) }
+    ensures borrowed { rules.Borrow m (K.Key.meaning key) (machine_of K.Key.meaning cells.old ring.old) (answer_of K.Key.meaning result) (machine_of K.Key.meaning cells.new ring.new) }
+    ensures written { Written (machine_of K.Key.meaning cells.old ring.old) result }
+    ensures facts { Well m (machine_of K.Key.meaning cells.new ring.new) }
 {
     let Some(row) = rows::find(cells, &ring.table, &key) else {
         return cold_fault(cells, ring, m, key);

@@ -50,7 +50,7 @@ pub(crate) fn raise(m: u32, c: u32) -> u32
 pub fn hot_step<K: Key + Copy>(cells: &mut [Cell<Entry<K>>], ring: &mut Ring)
     requires { Stands cells.old ring.old.table }
     ensures stands { Stands cells.new ring.new.table }
-    ensures step { machine_of meaning cells.new ring.new ≡ rules.hot_step (machine_of meaning cells.old ring.old) }
+    ensures step { machine_of K.Key.meaning cells.new ring.new ≡ rules.hot_step (machine_of K.Key.meaning cells.old ring.old) }
 {
     let Some(row) = rows::tail_row(cells, &ring.table) else {
         return;
@@ -90,7 +90,7 @@ pub fn hot_step<K: Key + Copy>(cells: &mut [Cell<Entry<K>>], ring: &mut Ring)
 pub fn test_step<K: Key + Copy>(cells: &mut [Cell<Entry<K>>], ring: &mut Ring)
     requires { Stands cells.old ring.old.table }
     ensures stands { Stands cells.new ring.new.table }
-    ensures step { machine_of meaning cells.new ring.new ≡ rules.test_step (machine_of meaning cells.old ring.old) }
+    ensures step { machine_of K.Key.meaning cells.new ring.new ≡ rules.test_step (machine_of K.Key.meaning cells.old ring.old) }
 {
     ring.cold = lower(ring.cold);
     let Some(row) = rows::marked_row(cells, &ring.table) else {
@@ -110,7 +110,7 @@ pub fn test_step<K: Key + Copy>(cells: &mut [Cell<Entry<K>>], ring: &mut Ring)
 pub fn cold_step<K: Key + Copy>(cells: &mut [Cell<Entry<K>>], ring: &mut Ring, m: u32) -> Choice<K>
     requires { Stands cells.old ring.old.table }
     ensures stands { Stands cells.new ring.new.table }
-    ensures step { Stepped meaning m (machine_of meaning cells.old ring.old) result (machine_of meaning cells.new ring.new) }
+    ensures step { Stepped K.Key.meaning m (machine_of K.Key.meaning cells.old ring.old) result (machine_of K.Key.meaning cells.new ring.new) }
 {
     let Some(row) = rows::candidate(cells, &ring.table) else {
         return Choice::NoCandidate;

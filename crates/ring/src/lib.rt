@@ -50,8 +50,8 @@ pub fn open<K: Key + Copy>(cells: &mut [Cell<Entry<K>>], m: u32) -> Ring
     requires frames { 2 ≤ m }
     requires memory { length cells.old < 2 ^ 32 }
     ensures stands { Stands cells.new result.table }
-    ensures state { machine_of meaning cells.new result ≡ opened m }
-    ensures facts { Well m (machine_of meaning cells.new result) }
+    ensures state { machine_of K.Key.meaning cells.new result ≡ opened m }
+    ensures facts { Well m (machine_of K.Key.meaning cells.new result) }
 {
     let table = rows::open(cells);
     Ring {
@@ -82,7 +82,7 @@ pub fn list<K: Key + Copy>(
     ring: &Ring,
 ) -> Result<Vec<Entry<K>>, AllocError>
     requires { Stands cells.now ring.now.table }
-    ensures { IfOk result (λ v. map (entry_in meaning) v.items ≡ (machine_of meaning cells.now ring.now).ring) }
+    ensures { IfOk result (λ v. map (entry_in K.Key.meaning) v.items ≡ (machine_of K.Key.meaning cells.now ring.now).ring) }
 {
     let all = rows::list(heap, cells, &ring.table)?;
     Ok(all)

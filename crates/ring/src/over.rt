@@ -37,11 +37,11 @@ impl<'a, K: Key + Copy> RingOver<'a, K> {
         requires frames { self.old.m ≤ 4096 }
         requires memory { 2 * self.old.m ≤ length self.old.cells.now }
         requires stands { Stands self.old.cells.now self.old.ring.table }
-        requires facts { Well self.old.m (machine_of meaning self.old.cells.now self.old.ring) }
+        requires facts { Well self.old.m (machine_of K.Key.meaning self.old.cells.now self.old.ring) }
         ensures stands { Stands self.new.cells.now self.new.ring.table }
-        ensures borrowed { rules.Borrow self.old.m (meaning key) (machine_of meaning self.old.cells.now self.old.ring) (answer_of meaning result) (machine_of meaning self.new.cells.now self.new.ring) }
-        ensures written { Written (machine_of meaning self.old.cells.now self.old.ring) result }
-        ensures facts { Well self.old.m (machine_of meaning self.new.cells.now self.new.ring) }
+        ensures borrowed { rules.Borrow self.old.m (K.Key.meaning key) (machine_of K.Key.meaning self.old.cells.now self.old.ring) (answer_of K.Key.meaning result) (machine_of K.Key.meaning self.new.cells.now self.new.ring) }
+        ensures written { Written (machine_of K.Key.meaning self.old.cells.now self.old.ring) result }
+        ensures facts { Well self.old.m (machine_of K.Key.meaning self.new.cells.now self.new.ring) }
         ensures frames { self.new.m ≡ self.old.m }
         ensures memory { length self.new.cells.now ≡ length self.old.cells.now }
         ensures same { self.new.cells.ghost_name ≡ self.old.cells.ghost_name }
@@ -57,9 +57,9 @@ impl<'a, K: Key + Copy> RingOver<'a, K> {
     pub fn give_back(&mut self, frame: FrameNo) -> bool
         requires { Stands self.old.cells.now self.old.ring.table }
         ensures stands { Stands self.new.cells.now self.new.ring.table }
-        ensures carried { result ≡ nat_lt 0 (rules.carries frame.0 (machine_of meaning self.old.cells.now self.old.ring)) }
-        ensures step { machine_of meaning self.new.cells.now self.new.ring ≡ rules.give_back frame.0 (machine_of meaning self.old.cells.now self.old.ring) }
-        ensures facts { (m : ℕ) → Well m (machine_of meaning self.old.cells.now self.old.ring) → Well m (machine_of meaning self.new.cells.now self.new.ring) }
+        ensures carried { result ≡ nat_lt 0 (rules.carries frame.0 (machine_of K.Key.meaning self.old.cells.now self.old.ring)) }
+        ensures step { machine_of K.Key.meaning self.new.cells.now self.new.ring ≡ rules.give_back frame.0 (machine_of K.Key.meaning self.old.cells.now self.old.ring) }
+        ensures facts { (m : ℕ) → Well m (machine_of K.Key.meaning self.old.cells.now self.old.ring) → Well m (machine_of K.Key.meaning self.new.cells.now self.new.ring) }
         ensures frames { self.new.m ≡ self.old.m }
         ensures memory { length self.new.cells.now ≡ length self.old.cells.now }
         ensures same { self.new.cells.ghost_name ≡ self.old.cells.ghost_name }
@@ -74,8 +74,8 @@ impl<'a, K: Key + Copy> RingOver<'a, K> {
     pub fn mark_page(&mut self, frame: FrameNo, altered: bool)
         requires { Stands self.old.cells.now self.old.ring.table }
         ensures stands { Stands self.new.cells.now self.new.ring.table }
-        ensures step { machine_of meaning self.new.cells.now self.new.ring ≡ rules.mark_page frame.0 altered (machine_of meaning self.old.cells.now self.old.ring) }
-        ensures facts { (m : ℕ) → Well m (machine_of meaning self.old.cells.now self.old.ring) → Well m (machine_of meaning self.new.cells.now self.new.ring) }
+        ensures step { machine_of K.Key.meaning self.new.cells.now self.new.ring ≡ rules.mark_page frame.0 altered (machine_of K.Key.meaning self.old.cells.now self.old.ring) }
+        ensures facts { (m : ℕ) → Well m (machine_of K.Key.meaning self.old.cells.now self.old.ring) → Well m (machine_of K.Key.meaning self.new.cells.now self.new.ring) }
         ensures frames { self.new.m ≡ self.old.m }
         ensures memory { length self.new.cells.now ≡ length self.old.cells.now }
         ensures same { self.new.cells.ghost_name ≡ self.old.cells.ghost_name }
@@ -88,7 +88,7 @@ impl<'a, K: Key + Copy> RingOver<'a, K> {
     /// The loans that a frame carries.
     pub fn loans_at(&self, frame: FrameNo) -> u8
         requires { Stands self.now.cells.now self.now.ring.table }
-        ensures { result ≡ rules.carries frame.0 (machine_of meaning self.now.cells.now self.now.ring) }
+        ensures { result ≡ rules.carries frame.0 (machine_of K.Key.meaning self.now.cells.now self.now.ring) }
     {
         calls::loans_at(self.cells, &self.ring, frame)
     }
@@ -96,7 +96,7 @@ impl<'a, K: Key + Copy> RingOver<'a, K> {
     /// The entry whose page lies in a frame, in constant time.
     pub fn occupant(&self, frame: FrameNo) -> Option<Entry<K>>
         requires { Stands self.now.cells.now self.now.ring.table }
-        ensures { found_in meaning result ≡ rules.occupant frame.0 (machine_of meaning self.now.cells.now self.now.ring) }
+        ensures { found_in K.Key.meaning result ≡ rules.occupant frame.0 (machine_of K.Key.meaning self.now.cells.now self.now.ring) }
     {
         calls::occupant(self.cells, &self.ring, frame)
     }
@@ -104,7 +104,7 @@ impl<'a, K: Key + Copy> RingOver<'a, K> {
     /// The entry of a key: what a search of the whole ring from the tail finds.
     pub fn find(&self, key: &K) -> Option<Entry<K>>
         requires { Stands self.now.cells.now self.now.ring.table }
-        ensures { found_in meaning result ≡ first (named (meaning key.now)) (machine_of meaning self.now.cells.now self.now.ring).ring }
+        ensures { found_in K.Key.meaning result ≡ first (named (K.Key.meaning key.now)) (machine_of K.Key.meaning self.now.cells.now self.now.ring).ring }
     {
         calls::find(self.cells, &self.ring, key)
     }
@@ -121,11 +121,11 @@ pub fn borrow_over<K: Key + Copy>(
     requires frames { m ≤ 4096 }
     requires memory { 2 * m ≤ length cells.old }
     requires stands { Stands cells.old ring.old.table }
-    requires facts { Well m (machine_of meaning cells.old ring.old) }
+    requires facts { Well m (machine_of K.Key.meaning cells.old ring.old) }
     ensures stands { Stands cells.new ring.new.table }
-    ensures borrowed { rules.Borrow m (meaning key) (machine_of meaning cells.old ring.old) (answer_of meaning result) (machine_of meaning cells.new ring.new) }
-    ensures written { Written (machine_of meaning cells.old ring.old) result }
-    ensures facts { Well m (machine_of meaning cells.new ring.new) }
+    ensures borrowed { rules.Borrow m (K.Key.meaning key) (machine_of K.Key.meaning cells.old ring.old) (answer_of K.Key.meaning result) (machine_of K.Key.meaning cells.new ring.new) }
+    ensures written { Written (machine_of K.Key.meaning cells.old ring.old) result }
+    ensures facts { Well m (machine_of K.Key.meaning cells.new ring.new) }
 {
     let mut over = RingOver {
         cells,

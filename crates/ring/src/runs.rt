@@ -33,7 +33,7 @@ pub struct Room<K> {
 /// Whether more than m - c entries are hot.
 fn is_too_hot<K: Key>(cells: &[Cell<Entry<K>>], ring: &Ring, m: u32) -> bool
     requires { Stands cells.now ring.now.table }
-    ensures { result ≡ rules.too_hot m (machine_of meaning cells.now ring.now) }
+    ensures { result ≡ rules.too_hot m (machine_of K.Key.meaning cells.now ring.now) }
 {
     (m.saturating_sub(ring.cold) as usize) < rows::hot_count(cells, &ring.table)
 }
@@ -41,7 +41,7 @@ fn is_too_hot<K: Key>(cells: &[Cell<Entry<K>>], ring: &Ring, m: u32) -> bool
 /// Whether more than m entries are remembered.
 fn has_too_many<K: Key>(cells: &[Cell<Entry<K>>], ring: &Ring, m: u32) -> bool
     requires { Stands cells.now ring.now.table }
-    ensures { result ≡ rules.too_many m (machine_of meaning cells.now ring.now) }
+    ensures { result ≡ rules.too_many m (machine_of K.Key.meaning cells.now ring.now) }
 {
     (m as usize) < rows::remembered_count(cells, &ring.table)
 }
@@ -50,10 +50,10 @@ fn has_too_many<K: Key>(cells: &[Cell<Entry<K>>], ring: &Ring, m: u32) -> bool
 pub fn hot_run<K: Key + Copy>(cells: &mut [Cell<Entry<K>>], ring: &mut Ring, m: u32) -> u32
     requires frames { m ≤ 4096 }
     requires stands { Stands cells.old ring.old.table }
-    requires facts { Mid m None (machine_of meaning cells.old ring.old) }
+    requires facts { Mid m None (machine_of K.Key.meaning cells.old ring.old) }
     ensures stands { Stands cells.new ring.new.table }
-    ensures run { rules.HotRun m (machine_of meaning cells.old ring.old) result (machine_of meaning cells.new ring.new) }
-    ensures facts { Mid m None (machine_of meaning cells.new ring.new) }
+    ensures run { rules.HotRun m (machine_of K.Key.meaning cells.old ring.old) result (machine_of K.Key.meaning cells.new ring.new) }
+    ensures facts { Mid m None (machine_of K.Key.meaning cells.new ring.new) }
 {
     let mut steps = 0;
     while is_too_hot(cells, ring, m) {
@@ -67,9 +67,9 @@ pub fn hot_run<K: Key + Copy>(cells: &mut [Cell<Entry<K>>], ring: &mut Ring, m: 
 pub fn test_run<K: Key + Copy>(cells: &mut [Cell<Entry<K>>], ring: &mut Ring, m: u32) -> u32
     requires frames { m ≤ 4096 }
     requires stands { Stands cells.old ring.old.table }
-    requires facts { (gap : Option ℕ) × Mid m gap (machine_of meaning cells.old ring.old) }
+    requires facts { (gap : Option ℕ) × Mid m gap (machine_of K.Key.meaning cells.old ring.old) }
     ensures stands { Stands cells.new ring.new.table }
-    ensures run { rules.TestRun m (machine_of meaning cells.old ring.old) result (machine_of meaning cells.new ring.new) }
+    ensures run { rules.TestRun m (machine_of K.Key.meaning cells.old ring.old) result (machine_of K.Key.meaning cells.new ring.new) }
 {
     let mut steps = 0;
     while has_too_many(cells, ring, m) {
@@ -84,11 +84,11 @@ pub fn test_run<K: Key + Copy>(cells: &mut [Cell<Entry<K>>], ring: &mut Ring, m:
 pub fn cold_run<K: Key + Copy>(cells: &mut [Cell<Entry<K>>], ring: &mut Ring, m: u32) -> Freed<K>
     requires frames { m ≤ 4096 }
     requires stands { Stands cells.old ring.old.table }
-    requires facts { Mid m None (machine_of meaning cells.old ring.old) }
-    requires unlent { 1 ≤ count idle (machine_of meaning cells.old ring.old).ring }
+    requires facts { Mid m None (machine_of K.Key.meaning cells.old ring.old) }
+    requires unlent { 1 ≤ count idle (machine_of K.Key.meaning cells.old ring.old).ring }
     ensures stands { Stands cells.new ring.new.table }
-    ensures run { Frees meaning m (machine_of meaning cells.old ring.old) result (machine_of meaning cells.new ring.new) }
-    ensures facts { Mid m (Some result.frame.0) (machine_of meaning cells.new ring.new) }
+    ensures run { Frees K.Key.meaning m (machine_of K.Key.meaning cells.old ring.old) result (machine_of K.Key.meaning cells.new ring.new) }
+    ensures facts { Mid m (Some result.frame.0) (machine_of K.Key.meaning cells.new ring.new) }
 {
     let mut cold = 0;
     let mut hot = 0;
@@ -127,10 +127,10 @@ pub fn cold_run<K: Key + Copy>(cells: &mut [Cell<Entry<K>>], ring: &mut Ring, m:
 pub fn make_room<K: Key + Copy>(cells: &mut [Cell<Entry<K>>], ring: &mut Ring, m: u32) -> Room<K>
     requires frames { m ≤ 4096 }
     requires stands { Stands cells.old ring.old.table }
-    requires facts { Mid m None (machine_of meaning cells.old ring.old) }
-    requires unlent { nat_lt ring.old.used m ≡ false → 1 ≤ count idle (machine_of meaning cells.old ring.old).ring }
+    requires facts { Mid m None (machine_of K.Key.meaning cells.old ring.old) }
+    requires unlent { nat_lt ring.old.used m ≡ false → 1 ≤ count idle (machine_of K.Key.meaning cells.old ring.old).ring }
     ensures stands { Stands cells.new ring.new.table }
-    ensures found { Roomed meaning m (machine_of meaning cells.old ring.old) result (machine_of meaning cells.new ring.new) }
+    ensures found { Roomed K.Key.meaning m (machine_of K.Key.meaning cells.old ring.old) result (machine_of K.Key.meaning cells.new ring.new) }
 {
     if ring.used < m {
         let frame = FrameNo(ring.used);

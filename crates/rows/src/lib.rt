@@ -207,7 +207,7 @@ pub fn candidate<K: Copy>(cells: &[Cell<Entry<K>>], table: &Table) -> Option<Row
 /// The row of a key: what a search of the whole ring from the tail finds. How it searches is nobody's business.
 pub fn find<K: Key + Copy>(cells: &[Cell<Entry<K>>], table: &Table, key: &K) -> Option<Row<K>>
     requires { Stands cells.now table.now }
-    ensures { result ≡ first_by (λ e. same_list (meaning key.now) (meaning e.key)) (rows_in cells.now table.now) }
+    ensures { result ≡ first_by (λ e. same_list (K.Key.meaning key.now) (K.Key.meaning e.key)) (rows_in cells.now table.now) }
 {
     let n = chains::len(cells, &table.chains, Chain::Ring);
     let Some(mut at) = chains::first(cells, &table.chains, Chain::Ring) else {

@@ -4,8 +4,8 @@ use Rattle.chains.specs.Shape.{shape_of, pushed, followed}
 use Rattle.chains.proofs.Shapes.{as_turned, as_unlinked, as_away}
 use Rattle.chains.proofs.follow.Goals as goal
 
-pub to-head-requires : goal.to-head-requires
-to-head-requires g c = record { intact = c.requires.intact; there = when_true _ _ c.in-true-true.is-0 c.requires.member }
+pub to_head-requires : goal.to_head-requires
+to_head-requires g c = record { intact = c.requires.intact; there = when_true _ _ c.in-true-true.is-0 c.requires.member }
 
 pub unlink-requires : goal.unlink-requires
 unlink-requires g c = record { intact = c.requires.intact; there = when_true _ _ c.in-true-false.is-0 c.requires.member }
@@ -17,8 +17,8 @@ pub returns-in-true-true : goal.returns-in-true-true
 returns-in-true-true g c =
     let s = shape_of c.args.cells.now c.args.chains.now in
     record {
-      intact = c.to-head.ensures.intact;
-      shape = c.to-head.ensures.shape ∙ as_turned c.args.which c.args.i.0 s ∙ ap (λ b. followed c.args.which c.args.i.0 b s) (sym c.in-true-true.is-1);
+      intact = c.to_head.ensures.intact;
+      shape = c.to_head.ensures.shape ∙ as_turned c.args.which c.args.i.0 s ∙ ap (λ b. followed c.args.which c.args.i.0 b s) (sym c.in-true-true.is-1);
     }
 
 pub returns-in-true-false : goal.returns-in-true-false

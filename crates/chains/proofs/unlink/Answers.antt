@@ -15,9 +15,9 @@ unlink-requires g c = record {
 pub returns : goal.returns
 returns g c =
     let e = c.unlink.ensures in
-    let p = c.put-back.ensures in
+    let p = c.put_back.ensures in
     let o = e.order ∙ ap (λ x. without c.args.i.0 (order_of c.args.cells.now c.args.which x)) c.pick-chain.ensures in
     record {
-      intact = intact_one c.args.cells.now c.unlink.new.cells c.args.chains.now c.put-back.new.chains c.args.which c.unlink.new.chain (without c.args.i.0) e.others e.sound o p.ends p.room c.requires.intact;
-      shape = shape_one c.args.cells.now c.unlink.new.cells c.args.chains.now c.put-back.new.chains c.args.which c.unlink.new.chain (without c.args.i.0) e.others e.sound o p.ends p.room;
+      intact = intact_one c.args.cells.now c.unlink.new.cells c.args.chains.now c.put_back.new.chains c.args.which c.unlink.new.chain (without c.args.i.0) e.others e.sound o p.ends p.room c.requires.intact;
+      shape = shape_one c.args.cells.now c.unlink.new.cells c.args.chains.now c.put_back.new.chains c.args.which c.unlink.new.chain (without c.args.i.0) e.others e.sound o p.ends p.room;
     }

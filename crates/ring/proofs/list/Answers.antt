@@ -12,4 +12,4 @@ pub returns : goal.returns
 unfolding machine_of
 returns g c =
     let f = g.K.Key.meaning in
-    ap (map (entry_in f)) c.in-ok-all.ensures ∙ read_rows f (rows_in c.args.cells.now c.args.ring.now.table)
+    ap (map (entry_in f)) c.in_ok-all.ensures ∙ read_rows f (rows_in c.args.cells.now c.args.ring.now.table)

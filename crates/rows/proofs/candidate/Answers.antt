@@ -7,12 +7,12 @@ use Rattle.rows.proofs.Stand.{row_inside, row_within}
 use Rattle.rows.proofs.Walks.{along_cold, walk_found, walk_passed, walk_ended, walk_empty, walk_starts, first_both}
 use Rattle.rows.proofs.candidate.Goals as goal
 
-pub returns-in-default : goal.returns-in-default
-returns-in-default g c =
+pub returns-in_default : goal.returns-in_default
+returns-in_default g c =
     let a = along_cold c.args.cells.now c.args.table.now c.requires in
     let l = filter (λ r. cold_resident r.entry) (rows_in c.args.cells.now c.args.table.now) in
     let p = unlent {K = g.row.K.Denot} in
-    sym (first_both cold_resident p (rows_in c.args.cells.now c.args.table.now) ∙ walk_empty l p _ a.order (sym c.in-default.ensures))
+    sym (first_both cold_resident p (rows_in c.args.cells.now c.args.table.now) ∙ walk_empty l p _ a.order (sym c.in_default.ensures))
 
 pub loop-k-init : goal.loop-k-init
 loop-k-init g c =
@@ -21,8 +21,8 @@ loop-k-init g c =
     let p = unlent {K = g.row.K.Denot} in
     walk_starts l p _ a.order c.in-Some.at.0 (sym c.in-Some.ensures)
 
-pub row-at-row-requires : goal.row-at-row-requires
-row-at-row-requires g c =
+pub row_at-row-requires : goal.row_at-row-requires
+row_at-row-requires g c =
     let a = along_cold c.args.cells.now c.args.table.now c.requires in
     let l = filter (λ r. cold_resident r.entry) (rows_in c.args.cells.now c.args.table.now) in
     let p = unlent {K = g.row.K.Denot} in
@@ -49,7 +49,7 @@ loop-k-preserved g c =
     let p = unlent {K = g.row.K.Denot} in
     let h : c.loop-k.-k < length l = omega (arith, c.len-n.ensures, a.size) in
     let x = a.spot p c.loop-k.-k c.loop-k.at.0 c.loop-k.invariant h in
-    let r = c.row-at-row.ensures x.0 x.1 x.2 in
+    let r = c.row_at-row.ensures x.0 x.1 x.2 in
     walk_passed l p c.loop-k.-k c.loop-k.at.0 c.loop-k.invariant h x.0 x.3 c.next-at.result.0
     (ap (λ y. p y.entry) (sym r) ∙ ne_eqb _ 0 c.if-loans-eq0.false)
     (λ m. c.next-at.ensures c.loop-k.-k (omega (arith, a.size)) (c.loop-k.invariant.here h ∙ ap (λ y. get_or y c.loop-k.-k 0) (sym a.order)) ∙ ap (λ y. get_or y (c.loop-k.-k + 1) 0) a.order)
@@ -61,7 +61,7 @@ returns-then-loans-eq0 g c =
     let p = unlent {K = g.row.K.Denot} in
     let h : c.loop-k.-k < length l = omega (arith, c.len-n.ensures, a.size) in
     let x = a.spot p c.loop-k.-k c.loop-k.at.0 c.loop-k.invariant h in
-    let r = c.row-at-row.ensures x.0 x.1 x.2 in
+    let r = c.row_at-row.ensures x.0 x.1 x.2 in
     sym (first_both cold_resident p (rows_in c.args.cells.now c.args.table.now) ∙ walk_found l p c.loop-k.-k c.loop-k.at.0 c.loop-k.invariant h x.0 x.3 (ap (λ y. p y.entry) (sym r) ∙ eq-eqb _ 0 c.if-loans-eq0.true)
     ∙ ap (λ y. Some y) (sym r))
 

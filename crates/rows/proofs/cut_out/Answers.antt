@@ -23,8 +23,8 @@ follow-requires g c =
     record {
       intact = c.unlink.ensures.intact;
       cell = subst (λ s. i < s.size) (sym e) c.requires.there.inside;
-      member = subst (λ s. MatchBool c.is-cold-resident.result (Has (s.order Cold) i) (Misses i (s.order Cold))) (sym e)
-          (as_member ((shape_of c.args.cells.now c.args.chains.now).order Cold) i (cold_resident c.args.row.entry) c.is-cold-resident.result c.is-cold-resident.ensures c.requires.there.cold);
+      member = subst (λ s. MatchBool c.is_cold_resident.result (Has (s.order Cold) i) (Misses i (s.order Cold))) (sym e)
+          (as_member ((shape_of c.args.cells.now c.args.chains.now).order Cold) i (cold_resident c.args.row.entry) c.is_cold_resident.result c.is_cold_resident.ensures c.requires.there.cold);
     }
 
 pub follow-requires-2 : goal.follow-requires-2

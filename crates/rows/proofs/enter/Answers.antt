@@ -10,8 +10,8 @@ use Rattle.rows.proofs.enter.Goals as goal
 pub unwrap-i-requires : goal.unwrap-i-requires
 unwrap-i-requires g c = free_there c.args.cells.now c.args.table.now c.requires.stands c.requires.room _ c.first.ensures
 
-pub link-in-requires : goal.link-in-requires
-link-in-requires g c =
+pub link_in-requires : goal.link_in-requires
+link_in-requires g c =
     let e = ap name_of (sym c.unwrap-i.ensures) ∙ c.first.ensures in
     record {
       intact = intact c.args.cells.now c.args.table.now c.requires.stands;
@@ -44,9 +44,9 @@ recount-table-requires-3 g c = record {
 pub returns : goal.returns
 returns g c =
     let e = ap name_of (sym c.unwrap-i.ensures) ∙ c.first.ensures in
-    let b : Table = record { chains = c.link-in.new.chains; hots = c.recount-table.result; past = c.recount-table-2.result; idles = c.recount-table-3.result } in
-    let past = subst (λ y. c.recount-table-2.result + 0 ≡ c.args.table.now.past + cond y 1 0) c.is-remembered.ensures c.recount-table-2.ensures in
-    let idles = subst (λ y. c.recount-table-3.result + 0 ≡ c.args.table.now.idles + cond y 1 0) c.is-idle.ensures c.recount-table-3.ensures in
-    let k = joined_stands c.args.cells.now c.args.table.now c.requires.stands c.requires.room c.unwrap-i.result e c.link-in.new.cells b c.args.new c.requires.frame c.link-in.ensures.shape c.recount-table.ensures past idles in
-    let s = stands_on c.link-in.new.cells b _ c.link-in.ensures.intact k in
+    let b : Table = record { chains = c.link_in.new.chains; hots = c.recount-table.result; past = c.recount-table-2.result; idles = c.recount-table-3.result } in
+    let past = subst (λ y. c.recount-table-2.result + 0 ≡ c.args.table.now.past + cond y 1 0) c.is_remembered.ensures c.recount-table-2.ensures in
+    let idles = subst (λ y. c.recount-table-3.result + 0 ≡ c.args.table.now.idles + cond y 1 0) c.is_idle.ensures c.recount-table-3.ensures in
+    let k = joined_stands c.args.cells.now c.args.table.now c.requires.stands c.requires.room c.unwrap-i.result e c.link_in.new.cells b c.args.new c.requires.frame c.link_in.ensures.shape c.recount-table.ensures past idles in
+    let s = stands_on c.link_in.new.cells b _ c.link_in.ensures.intact k in
     record { stands = s.0; rows = s.1 }

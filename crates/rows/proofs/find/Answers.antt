@@ -8,12 +8,12 @@ use Rattle.rows.proofs.Stand.{row_inside, row_within}
 use Rattle.rows.proofs.Walks.{along_ring, walk_found, walk_passed, walk_ended, walk_empty, walk_starts}
 use Rattle.rows.proofs.find.Goals as goal
 
-pub returns-in-default : goal.returns-in-default
-returns-in-default g c =
+pub returns-in_default : goal.returns-in_default
+returns-in_default g c =
     let a = along_ring c.args.cells.now c.args.table.now c.requires in
     let l = rows_in c.args.cells.now c.args.table.now in
     let p : Entry g.row.K.Denot → Bool = λ e. same_list (g.K.Key.meaning c.args.key.now) (g.K.Key.meaning e.key) in
-    sym (walk_empty l p _ a.order (sym c.in-default.ensures))
+    sym (walk_empty l p _ a.order (sym c.in_default.ensures))
 
 pub loop-k-init : goal.loop-k-init
 loop-k-init g c =
@@ -22,8 +22,8 @@ loop-k-init g c =
     let p : Entry g.row.K.Denot → Bool = λ e. same_list (g.K.Key.meaning c.args.key.now) (g.K.Key.meaning e.key) in
     walk_starts l p _ a.order c.in-Some.at.0 (sym c.in-Some.ensures)
 
-pub row-at-row-requires : goal.row-at-row-requires
-row-at-row-requires g c =
+pub row_at-row-requires : goal.row_at-row-requires
+row_at-row-requires g c =
     let a = along_ring c.args.cells.now c.args.table.now c.requires in
     let l = rows_in c.args.cells.now c.args.table.now in
     let p : Entry g.row.K.Denot → Bool = λ e. same_list (g.K.Key.meaning c.args.key.now) (g.K.Key.meaning e.key) in
@@ -50,7 +50,7 @@ loop-k-preserved g c =
     let p : Entry g.row.K.Denot → Bool = λ e. same_list (g.K.Key.meaning c.args.key.now) (g.K.Key.meaning e.key) in
     let h : c.loop-k.-k < length l = omega (arith, c.len-n.ensures, a.size) in
     let x = a.spot p c.loop-k.-k c.loop-k.at.0 c.loop-k.invariant h in
-    let r = c.row-at-row.ensures x.0 x.1 x.2 in
+    let r = c.row_at-row.ensures x.0 x.1 x.2 in
     walk_passed l p c.loop-k.-k c.loop-k.at.0 c.loop-k.invariant h x.0 x.3 c.next-at.result.0
     (ap (λ y. p y.entry) (sym r) ∙ sym c.if-same.ensures)
     (λ m. c.next-at.ensures c.loop-k.-k (omega (arith, a.size)) (c.loop-k.invariant.here h ∙ ap (λ y. get_or y c.loop-k.-k 0) (sym a.order)) ∙ ap (λ y. get_or y (c.loop-k.-k + 1) 0) a.order)
@@ -62,7 +62,7 @@ returns-then-same g c =
     let p : Entry g.row.K.Denot → Bool = λ e. same_list (g.K.Key.meaning c.args.key.now) (g.K.Key.meaning e.key) in
     let h : c.loop-k.-k < length l = omega (arith, c.len-n.ensures, a.size) in
     let x = a.spot p c.loop-k.-k c.loop-k.at.0 c.loop-k.invariant h in
-    let r = c.row-at-row.ensures x.0 x.1 x.2 in
+    let r = c.row_at-row.ensures x.0 x.1 x.2 in
     sym (walk_found l p c.loop-k.-k c.loop-k.at.0 c.loop-k.invariant h x.0 x.3 (ap (λ y. p y.entry) (sym r) ∙ sym c.if-same.ensures)
     ∙ ap (λ y. Some y) (sym r))
 

@@ -42,7 +42,7 @@ follow-requires g c =
 pub follow-requires-2 : goal.follow-requires-2
 follow-requires-2 g c =
     let i = c.args.i.0 in
-    let e = c.follow.ensures.shape ∙ ap (followed Cold i c.is-cold-resident.result) (c.push.ensures.shape ∙ ap (pushed Ring i) (c.unlink.ensures.shape ∙ ap (unlinked Free i) ((c.put.ensures.shape ∙ ap (stored c.args.i.0 (Some c.args.new)) c.note.ensures.shape)))) in
+    let e = c.follow.ensures.shape ∙ ap (followed Cold i c.is_cold_resident.result) (c.push.ensures.shape ∙ ap (pushed Ring i) (c.unlink.ensures.shape ∙ ap (unlinked Free i) ((c.put.ensures.shape ∙ ap (stored c.args.i.0 (Some c.args.new)) c.note.ensures.shape)))) in
     record {
       intact = c.follow.ensures.intact;
       cell = subst (λ s. i < s.size) (sym e) c.requires.inside;
@@ -56,6 +56,6 @@ returns g c =
     let e = c.push.ensures.shape ∙ ap (pushed Ring i) (c.unlink.ensures.shape ∙ ap (unlinked Free i) (c.put.ensures.shape ∙ ap (stored i (Some c.args.new)) c.note.ensures.shape)) in
     record {
       intact = c.follow-2.ensures.intact;
-      shape = c.follow-2.ensures.shape ∙ ap (followed Test i c.args.new.test) (c.follow.ensures.shape ∙ ap (followed Cold i c.is-cold-resident.result) e)
-          ∙ ap (λ b. followed Test i c.args.new.test (followed Cold i b (pushed Ring i (unlinked Free i (stored i (Some c.args.new) (noted i c.args.new.frame s)))))) c.is-cold-resident.ensures;
+      shape = c.follow-2.ensures.shape ∙ ap (followed Test i c.args.new.test) (c.follow.ensures.shape ∙ ap (followed Cold i c.is_cold_resident.result) e)
+          ∙ ap (λ b. followed Test i c.args.new.test (followed Cold i b (pushed Ring i (unlinked Free i (stored i (Some c.args.new) (noted i c.args.new.frame s)))))) c.is_cold_resident.ensures;
     }

@@ -4,13 +4,13 @@ use Rattle.chains.proofs.Shapes.{shape_is}
 use Rattle.rows.specs.Rows.{Fits, noted}
 use Rattle.rows.proofs.note.Goals as goal
 
-pub set-slot-requires : goal.set-slot-requires
-set-slot-requires g c = record { intact = c.requires.intact; fits = subst (Fits (shape_of c.args.cells.now c.args.chains.now).size) c.in-Some.is c.requires.fits }
+pub set_slot-requires : goal.set_slot-requires
+set_slot-requires g c = record { intact = c.requires.intact; fits = subst (Fits (shape_of c.args.cells.now c.args.chains.now).size) c.in-Some.is c.requires.fits }
 
 pub returns-in-Some : goal.returns-in-Some
 returns-in-Some g c =
     let s = shape_of c.args.cells.now c.args.chains.now in
-    record { intact = c.set-slot.ensures.intact; shape = c.set-slot.ensures.shape ∙ ap (λ o. noted c.args.i.0 o s) (sym c.in-Some.is) }
+    record { intact = c.set_slot.ensures.intact; shape = c.set_slot.ensures.shape ∙ ap (λ o. noted c.args.i.0 o s) (sym c.in-Some.is) }
 
 pub returns-in-None : goal.returns-in-None
 returns-in-None g c =

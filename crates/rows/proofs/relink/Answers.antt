@@ -10,8 +10,8 @@ use Rattle.rows.proofs.relink.Goals as goal
 pub put-requires : goal.put-requires
 put-requires g c = record { intact = c.requires.intact; cell = c.requires.there.inside }
 
-pub to-head-requires : goal.to-head-requires
-to-head-requires g c =
+pub to_head-requires : goal.to_head-requires
+to_head-requires g c =
     let e = c.put.ensures.shape in
     record {
       intact = c.put.ensures.intact;
@@ -21,18 +21,18 @@ to-head-requires g c =
 pub follow-requires : goal.follow-requires
 follow-requires g c =
     let i = c.args.row.cell.0 in
-    let e = c.to-head.ensures.shape ∙ ap (turned Ring i) c.put.ensures.shape in
+    let e = c.to_head.ensures.shape ∙ ap (turned Ring i) c.put.ensures.shape in
     record {
-      intact = c.to-head.ensures.intact;
+      intact = c.to_head.ensures.intact;
       cell = subst (λ s. i < s.size) (sym e) c.requires.there.inside;
-      member = subst (λ s. MatchBool c.is-cold-resident.result (Has (s.order Cold) i) (Misses i (s.order Cold))) (sym e)
-          (as_member ((shape_of c.args.cells.now c.args.chains.now).order Cold) i (cold_resident c.args.row.entry) c.is-cold-resident.result c.is-cold-resident.ensures c.requires.there.cold);
+      member = subst (λ s. MatchBool c.is_cold_resident.result (Has (s.order Cold) i) (Misses i (s.order Cold))) (sym e)
+          (as_member ((shape_of c.args.cells.now c.args.chains.now).order Cold) i (cold_resident c.args.row.entry) c.is_cold_resident.result c.is_cold_resident.ensures c.requires.there.cold);
     }
 
 pub follow-requires-2 : goal.follow-requires-2
 follow-requires-2 g c =
     let i = c.args.row.cell.0 in
-    let e = c.follow.ensures.shape ∙ ap (followed Cold i c.is-cold-resident-2.result) (c.to-head.ensures.shape ∙ ap (turned Ring i) c.put.ensures.shape) in
+    let e = c.follow.ensures.shape ∙ ap (followed Cold i c.is_cold_resident-2.result) (c.to_head.ensures.shape ∙ ap (turned Ring i) c.put.ensures.shape) in
     record {
       intact = c.follow.ensures.intact;
       cell = subst (λ s. i < s.size) (sym e) c.requires.there.inside;

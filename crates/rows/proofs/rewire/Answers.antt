@@ -16,14 +16,14 @@ keep-requires g c =
     let e = c.put.ensures.shape in
     record {
       intact = c.put.ensures.intact;
-      member = subst (λ s. MatchBool c.is-cold-resident.result (Has (s.order Cold) i) (Misses i (s.order Cold))) (sym e)
-          (as_member ((shape_of c.args.cells.now c.args.chains.now).order Cold) i (cold_resident c.args.row.entry) c.is-cold-resident.result c.is-cold-resident.ensures c.requires.there.cold);
+      member = subst (λ s. MatchBool c.is_cold_resident.result (Has (s.order Cold) i) (Misses i (s.order Cold))) (sym e)
+          (as_member ((shape_of c.args.cells.now c.args.chains.now).order Cold) i (cold_resident c.args.row.entry) c.is_cold_resident.result c.is_cold_resident.ensures c.requires.there.cold);
     }
 
 pub keep-requires-2 : goal.keep-requires-2
 keep-requires-2 g c =
     let i = c.args.row.cell.0 in
-    let e = c.keep.ensures.shape ∙ ap (stayed Cold i c.is-cold-resident-2.result) c.put.ensures.shape in
+    let e = c.keep.ensures.shape ∙ ap (stayed Cold i c.is_cold_resident-2.result) c.put.ensures.shape in
     record {
       intact = c.keep.ensures.intact;
       member = subst (λ s. MatchBool c.args.row.entry.test (Has (s.order Test) i) (Misses i (s.order Test))) (sym e) c.requires.there.test;

@@ -4,8 +4,8 @@ use Rattle.rows.specs.declared.Table.{Table}
 use Rattle.rows.proofs.Stand.{intact, linked, row_members, count_some, count_room, cut_stands, stands_on}
 use Rattle.rows.proofs.take_out.Goals as goal
 
-pub cut-out-requires : goal.cut-out-requires
-cut-out-requires g c = record {
+pub cut_out-requires : goal.cut_out-requires
+cut_out-requires g c = record {
   intact = intact c.args.cells.now c.args.table.now c.requires.stands;
   there = row_members c.args.cells.now c.args.table.now c.requires.stands c.args.row c.requires.there;
 }
@@ -22,23 +22,23 @@ pub recount-table-requires-2 : goal.recount-table-requires-2
 recount-table-requires-2 g c =
     let k = linked c.args.cells.now c.args.table.now c.requires.stands in
     record {
-      some = λ e. count_some c.args.cells.now c.args.table.now c.requires.stands c.args.row c.requires.there remembered c.args.table.now.past k.left (sym c.is-remembered.ensures ∙ e);
-      room = λ e. omega (arith, count_room c.args.cells.now c.args.table.now c.requires.stands c.args.row c.requires.there remembered c.args.table.now.past k.left (sym c.is-remembered.ensures ∙ e));
+      some = λ e. count_some c.args.cells.now c.args.table.now c.requires.stands c.args.row c.requires.there remembered c.args.table.now.past k.left (sym c.is_remembered.ensures ∙ e);
+      room = λ e. omega (arith, count_room c.args.cells.now c.args.table.now c.requires.stands c.args.row c.requires.there remembered c.args.table.now.past k.left (sym c.is_remembered.ensures ∙ e));
     }
 
 pub recount-table-requires-3 : goal.recount-table-requires-3
 recount-table-requires-3 g c =
     let k = linked c.args.cells.now c.args.table.now c.requires.stands in
     record {
-      some = λ e. count_some c.args.cells.now c.args.table.now c.requires.stands c.args.row c.requires.there idle c.args.table.now.idles k.unlents (sym c.is-idle.ensures ∙ e);
-      room = λ e. omega (arith, count_room c.args.cells.now c.args.table.now c.requires.stands c.args.row c.requires.there idle c.args.table.now.idles k.unlents (sym c.is-idle.ensures ∙ e));
+      some = λ e. count_some c.args.cells.now c.args.table.now c.requires.stands c.args.row c.requires.there idle c.args.table.now.idles k.unlents (sym c.is_idle.ensures ∙ e);
+      room = λ e. omega (arith, count_room c.args.cells.now c.args.table.now c.requires.stands c.args.row c.requires.there idle c.args.table.now.idles k.unlents (sym c.is_idle.ensures ∙ e));
     }
 
 pub returns : goal.returns
 returns g c =
-    let b : Table = record { chains = c.cut-out.new.chains; hots = c.recount-table.result; past = c.recount-table-2.result; idles = c.recount-table-3.result } in
-    let past = subst (λ x. c.recount-table-2.result + cond x 1 0 ≡ c.args.table.now.past + 0) c.is-remembered.ensures c.recount-table-2.ensures in
-    let idles = subst (λ x. c.recount-table-3.result + cond x 1 0 ≡ c.args.table.now.idles + 0) c.is-idle.ensures c.recount-table-3.ensures in
-    let k = cut_stands c.args.cells.now c.args.table.now c.requires.stands c.args.row c.requires.there c.cut-out.new.cells b c.cut-out.ensures.intact c.cut-out.ensures.shape c.recount-table.ensures past idles in
-    let s = stands_on c.cut-out.new.cells b _ c.cut-out.ensures.intact k in
+    let b : Table = record { chains = c.cut_out.new.chains; hots = c.recount-table.result; past = c.recount-table-2.result; idles = c.recount-table-3.result } in
+    let past = subst (λ x. c.recount-table-2.result + cond x 1 0 ≡ c.args.table.now.past + 0) c.is_remembered.ensures c.recount-table-2.ensures in
+    let idles = subst (λ x. c.recount-table-3.result + cond x 1 0 ≡ c.args.table.now.idles + 0) c.is_idle.ensures c.recount-table-3.ensures in
+    let k = cut_stands c.args.cells.now c.args.table.now c.requires.stands c.args.row c.requires.there c.cut_out.new.cells b c.cut_out.ensures.intact c.cut_out.ensures.shape c.recount-table.ensures past idles in
+    let s = stands_on c.cut_out.new.cells b _ c.cut_out.ensures.intact k in
     record { stands = s.0; rows = s.1 }

@@ -8,12 +8,12 @@ loop-i-init c = added_begin _ _
 
 pub loop-i-preserved : goal.loop-i-preserved
 loop-i-preserved c =
-    subst (λ x. Added c.args.rows.now c.args.count (c.loop-i.i + 1) (c.loop-i.sum + x)) (sym c.row-at-row.ensures.pages)
-    (added_more _ _ _ _ c.loop-i-test.true (sym c.row-is-good.ensures ∙ c.if-not-row-is-good.false) c.loop-i.invariant)
+    subst (λ x. Added c.args.rows.now c.args.count (c.loop-i.i + 1) (c.loop-i.sum + x)) (sym c.row_at-row.ensures.pages)
+    (added_more _ _ _ _ c.loop-i-test.true (sym c.row_is_good.ensures ∙ c.if-not-row_is_good.false) c.loop-i.invariant)
 
-pub returns-then-not-row-is-good : goal.returns-then-not-row-is-good
-returns-then-not-row-is-good c =
-    (added_bad _ _ _ _ c.loop-i-test.true (sym c.row-is-good.ensures ∙ c.if-not-row-is-good.true) c.loop-i.invariant, refl)
+pub returns-then-not-row_is_good : goal.returns-then-not-row_is_good
+returns-then-not-row_is_good c =
+    (added_bad _ _ _ _ c.loop-i-test.true (sym c.row_is_good.ensures ∙ c.if-not-row_is_good.true) c.loop-i.invariant, refl)
 
 pub returns : goal.returns
 returns c =

@@ -18,8 +18,8 @@ tie-requires-2 g c =
     let s = c.tie.ensures.others.size in
     (omega arith, omega arith)
 
-pub overflow-add-chain : goal.overflow-add-chain
-overflow-add-chain g c =
+pub overflow_add-chain : goal.overflow_add-chain
+overflow_add-chain g c =
     omega (arith, room c.args.cells.now c.args.which c.args.chain.now c.requires.sound c.args.i.0 c.requires.cell c.requires.free)
 
 pub returns : goal.returns

@@ -7,7 +7,7 @@ pub returns : goal.returns
 unfolding next_of prev_of
 returns g c =
     let w = c.args.which in
-    let p = c.put-next.ensures in
+    let p = c.put_next.ensures in
     record {
       ahead = at_put c.args.cells.now c.args.i.0 c.index-cells-i.result _ c.requires (λ k. (links_at k.links w).next.0) c.args.x.0 (ap (λ n. n.0) p.here);
       back = at_set c.args.cells.now c.args.i.0 c.index-cells-i.result _ c.requires (λ k. (links_at k.links w).prev.0) (ap (λ n. n.0) p.back);

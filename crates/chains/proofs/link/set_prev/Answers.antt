@@ -7,7 +7,7 @@ pub returns : goal.returns
 unfolding next_of prev_of
 returns g c =
     let w = c.args.which in
-    let p = c.put-prev.ensures in
+    let p = c.put_prev.ensures in
     record {
       back = at_put c.args.cells.now c.args.i.0 c.index-cells-i.result _ c.requires (λ k. (links_at k.links w).prev.0) c.args.x.0 (ap (λ n. n.0) p.here);
       ahead = at_set c.args.cells.now c.args.i.0 c.index-cells-i.result _ c.requires (λ k. (links_at k.links w).next.0) (ap (λ n. n.0) p.ahead);

@@ -4,6 +4,6 @@ use Rattle.console.proofs.listings.add_byte.Goals as goal
 pub returns : goal.returns
 returns c =
     let old = string_bytes c.args.text.now in
-    let one = c.in-ok-push.ensures.bytes ∙ ap (λ t. old ++ t) (c.push.ensures.ascii c.digit.ensures.ascii ∙ ap (λ d. d ∷ []) c.digit.ensures.value) in
+    let one = c.in_ok-push.ensures.bytes ∙ ap (λ t. old ++ t) (c.push.ensures.ascii c.digit.ensures.ascii ∙ ap (λ d. d ∷ []) c.digit.ensures.value) in
     let two = c.push-2.ensures.ascii c.digit-2.ensures.ascii ∙ ap (λ d. d ∷ []) c.digit-2.ensures.value in
-    c.in-ok-push-2.ensures.bytes ∙ ap₂ (λ s t. s ++ t) one two ∙ append_assoc old _ _
+    c.in_ok-push-2.ensures.bytes ∙ ap₂ (λ s t. s ++ t) one two ∙ append_assoc old _ _

@@ -7,7 +7,7 @@ use Rattle.console.proofs.listings.describe.Goals as goal
 
 pub returns-in-Ok : goal.returns-in-Ok
 returns-in-Ok c =
-    let p = c.args.page-size in
+    let p = c.args.page_size in
     let bytes = c.args.bytes.now in
     let b = c.open-bundle.result in
     let o = c.open-bundle.ensures in
@@ -15,6 +15,6 @@ returns-in-Ok c =
     IfOk-weaker c.list.result (λ s. string_bytes s ≡ listing b.page_size (listed_by b)) (λ s. Described p bytes (string_bytes s))
     (λ s e. subst (Described p bytes) (sym (e ∙ same)) (lists (sym c.in-Ok.ensures))) c.list.ensures
 
-pub returns-in-ok-text : goal.returns-in-ok-text
-returns-in-ok-text c =
-    subst (Described c.args.page-size c.args.bytes.now) (sym c.in-ok-text.ensures.ok) (refuses c.in-Err.fault (sym c.in-Err.ensures))
+pub returns-in_ok-text : goal.returns-in_ok-text
+returns-in_ok-text c =
+    subst (Described c.args.page_size c.args.bytes.now) (sym c.in_ok-text.ensures.ok) (refuses c.in-Err.fault (sym c.in-Err.ensures))

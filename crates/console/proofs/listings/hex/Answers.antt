@@ -7,7 +7,7 @@ use Rattle.console.proofs.listings.hex.Goals as goal
 pub loop-b-preserved : goal.loop-b-preserved
 loop-b-preserved c =
     let bytes = c.args.bytes.now in
-    c.in-ok-add-byte.ensures ∙ ap (λ t. t ++ hexed (get_or bytes c.loop-b.b-index 0 ∷ [])) c.loop-b.invariant
+    c.in_ok-add_byte.ensures ∙ ap (λ t. t ++ hexed (get_or bytes c.loop-b.b-index 0 ∷ [])) c.loop-b.invariant
     ∙ sym (hex_more bytes c.loop-b.b-index c.loop-b-test.true)
 
 pub returns : goal.returns

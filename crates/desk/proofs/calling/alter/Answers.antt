@@ -21,7 +21,7 @@ returns-in-Ok g c =
     (record {
       answer = model.done;
       replied = refl;
-      asked = subst (λ (x : List ℕ). Asked g.K.Key.meaning (model.to_alter (loan_in c.in-Some.loan) c.args.offset x) h model.done t) c.as-slice.ensures.value c.in-Ok.ensures.asked;
+      asked = subst (λ (x : List ℕ). Asked g.K.Key.meaning (model.to_alter (loan_in c.in-Some.loan) c.args.offset x) h model.done t) c.as_slice.ensures.value c.in-Ok.ensures.asked;
       in_hands = refl;
     })
 
@@ -33,6 +33,6 @@ returns-in-Err g c =
     (record {
       answer = denial c.in-Err.fault;
       replied = refl;
-      asked = subst (λ (x : List ℕ). Asked g.K.Key.meaning (model.to_alter (loan_in c.in-Some.loan) c.args.offset x) h (denial c.in-Err.fault) t) c.as-slice.ensures.value c.in-Err.ensures.asked;
+      asked = subst (λ (x : List ℕ). Asked g.K.Key.meaning (model.to_alter (loan_in c.in-Some.loan) c.args.offset x) h (denial c.in-Err.fault) t) c.as_slice.ensures.value c.in-Err.ensures.asked;
       in_hands = refl;
     })

@@ -13,5 +13,5 @@ returns-in-Ok g c =
       answer = lends (loan_in l) (report_in g.K.Key.meaning c.in-Ok.report);
       replied = rw (c.frame-frame.ensures, c.pool-number.ensures);
       asked = c.in-Ok.ensures.asked;
-      in_hands = ap hands_in (c.push-reserved.ensures.items ∙ ap (λ (x : List (Option Loan)). x ++ (Some l ∷ [])) c.reserve.ensures.items) ∙ hands_more _ l;
+      in_hands = ap hands_in (c.push_reserved.ensures.items ∙ ap (λ (x : List (Option Loan)). x ++ (Some l ∷ [])) c.reserve.ensures.items) ∙ hands_more _ l;
     }

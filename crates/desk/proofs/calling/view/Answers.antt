@@ -13,14 +13,14 @@ returns-then-hand-hands g c = called_none g.K.Key.meaning model.to_view c.args.h
 pub returns-in-None : goal.returns-in-None
 returns-in-None g c = called_none g.K.Key.meaning model.to_view c.args.hand _ _ c.args.hands.now _ _ c.in-None.is refl refl
 
-pub returns-in-ok-shown : goal.returns-in-ok-shown
-returns-in-ok-shown g c =
+pub returns-in_ok-shown : goal.returns-in_ok-shown
+returns-in_ok-shown g c =
     let h = holding c.args.pool.now c.args.frames.now c.args.cells.now (g.S.Store.meant c.args.store.now) in
     called_some g.K.Key.meaning model.to_view c.args.hand c.in-Some.loan _ h _ c.args.hands.now _ _ c.in-Some.is
     (record {
-      answer = model.shows (vec_items c.in-ok-shown.shown);
+      answer = model.shows (vec_items c.in_ok-shown.shown);
       replied = refl;
-      asked = subst (λ (x : List ℕ). Asked g.K.Key.meaning (model.to_view (loan_in c.in-Some.loan)) h (model.shows x) h) (sym (c.in-ok-shown.ensures.items-if-clones-equal (λ x y e. e))) c.in-Ok.ensures;
+      asked = subst (λ (x : List ℕ). Asked g.K.Key.meaning (model.to_view (loan_in c.in-Some.loan)) h (model.shows x) h) (sym (c.in_ok-shown.ensures.items-if-clones-equal (λ x y e. e))) c.in-Ok.ensures;
       in_hands = refl;
     })
 

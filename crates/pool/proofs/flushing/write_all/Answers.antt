@@ -14,8 +14,8 @@ use Rattle.pool.proofs.flushing.write_all.Goals as goal
 pub loop-f-init : goal.loop-f-init
 loop-f-init g c = (c.requires.ready.stands, start _ (owed.facts _ c.requires.ready.led), refl, refl)
 
-pub flush-frame-written-requires : goal.flush-frame-written-requires
-flush-frame-written-requires g c =
+pub flush_frame-written-requires : goal.flush_frame-written-requires
+flush_frame-written-requires g c =
     let h = holding c.args.pool.now c.args.frames.now c.args.cells.now (g.S.Store.meant c.args.store.now) in
     let s = state_of g.K.Key.meaning c.args.pool.now c.args.frames.now c.args.cells.now (g.S.Store.meant c.args.store.now) in
     let v = owed.facts s c.requires.ready.led in
@@ -36,12 +36,12 @@ loop-f-preserved g c =
     let s = state_of w c.args.pool.now c.args.frames.now c.args.cells.now (m c.args.store.now) in
     let v = owed.facts s c.requires.ready.led in
     let i = c.loop-f.invariant in
-    let b = c.flush-frame-written.ensures in
+    let b = c.flush_frame-written.ensures in
     let t = machine_of w c.loop-f.cells c.loop-f.pool.ring in
-    let u = machine_of w c.flush-frame-written.new.cells c.flush-frame-written.new.ring in
+    let u = machine_of w c.flush_frame-written.new.cells c.flush_frame-written.new.ring in
     let e = b.store ∙ ap (λ (p : ℕ). sent_out (part_of p c.args.frames.now c.loop-f.f) (occupant c.loop-f.f t) (m c.loop-f.store)) c.requires.size in
-    let x = turn s c.loop-f.f t u (m c.loop-f.store) (m c.flush-frame-written.new.store) c.loop-f.written v i.1 b.marks e in
-    (b.stands, subst (λ (y : ℕ). Flushing s (c.loop-f.f + 1) u (m c.flush-frame-written.new.store) (c.loop-f.written + y)) (sym b.written) x, i.2, i.3)
+    let x = turn s c.loop-f.f t u (m c.loop-f.store) (m c.flush_frame-written.new.store) c.loop-f.written v i.1 b.marks e in
+    (b.stands, subst (λ (y : ℕ). Flushing s (c.loop-f.f + 1) u (m c.flush_frame-written.new.store) (c.loop-f.written + y)) (sym b.written) x, i.2, i.3)
 
 pub returns : goal.returns
 returns g c =

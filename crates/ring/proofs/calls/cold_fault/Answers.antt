@@ -4,34 +4,34 @@ use Rattle.ring.specs.Model.{machine_of, steps_of}
 use Rattle.ring.proofs.Faults.{refusal_outside, ready_outside, ready_roomed, gap_open, gone_key, cold_answer, written}
 use Rattle.ring.proofs.calls.cold_fault.Goals as goal
 
-pub returns-then-is-full : goal.returns-then-is-full
-returns-then-is-full g c =
+pub returns-then-is_full : goal.returns-then-is_full
+returns-then-is_full g c =
     let w = g.K.Key.meaning in let k = w c.args.key in let s = machine_of w c.args.cells.now c.args.ring.now in
-    record { stands = c.requires.stands; borrowed = refuses (refusal_outside c.args.m k s c.requires.outside ∙ c.if-is-full.ensures); written = tt }
+    record { stands = c.requires.stands; borrowed = refuses (refusal_outside c.args.m k s c.requires.outside ∙ c.if-is_full.ensures); written = tt }
 
-pub make-room-room-requires : goal.make-room-room-requires
+pub make_room-room-requires : goal.make_room-room-requires
 unfolding machine_of
-make-room-room-requires g c =
+make_room-room-requires g c =
     let w = g.K.Key.meaning in let k = w c.args.key in let s = machine_of w c.args.cells.now c.args.ring.now in
-    let q = refusal_outside c.args.m k s c.requires.outside ∙ c.if-is-full.ensures in
+    let q = refusal_outside c.args.m k s c.requires.outside ∙ c.if-is_full.ensures in
     record { frames = c.requires.frames; stands = c.requires.stands; facts = c.requires.facts; unlent = (ready_outside c.args.m k s c.requires.facts q c.requires.outside).unlent }
 
 pub enter-requires : goal.enter-requires
 enter-requires g c =
     let w = g.K.Key.meaning in let k = w c.args.key in let s = machine_of w c.args.cells.now c.args.ring.now in
-    let q = refusal_outside c.args.m k s c.requires.outside ∙ c.if-is-full.ensures in
-    let r = c.make-room-room.result in let f = c.make-room-room.ensures.found in let x = machine_of w c.make-room-room.new.cells c.make-room-room.new.ring in
+    let q = refusal_outside c.args.m k s c.requires.outside ∙ c.if-is_full.ensures in
+    let r = c.make_room-room.result in let f = c.make_room-room.ensures.found in let x = machine_of w c.make_room-room.new.cells c.make_room-room.new.ring in
     let d = ready_roomed c.args.m s r.frame.0 f.victim (steps_of r.steps) x (ready_outside c.args.m k s c.requires.facts q c.requires.outside) f.room in
-    let h = subst (λ n. 2 * c.args.m ≤ n) (sym c.make-room-room.auto.cells) c.requires.memory in
-    let o = gap_open c.args.m r.frame.0 (length c.make-room-room.new.cells) x h d.mid d.away in
-    record { stands = c.make-room-room.ensures.stands; room = o.room; slot = o.slot; vacant = o.vacant }
+    let h = subst (λ n. 2 * c.args.m ≤ n) (sym c.make_room-room.auto.cells) c.requires.memory in
+    let o = gap_open c.args.m r.frame.0 (length c.make_room-room.new.cells) x h d.mid d.away in
+    record { stands = c.make_room-room.ensures.stands; room = o.room; slot = o.slot; vacant = o.vacant }
 
 pub returns : goal.returns
 unfolding machine_of
 returns g c =
     let w = g.K.Key.meaning in let k = w c.args.key in let s = machine_of w c.args.cells.now c.args.ring.now in
-    let q = refusal_outside c.args.m k s c.requires.outside ∙ c.if-is-full.ensures in
-    let r = c.make-room-room.result in let f = c.make-room-room.ensures.found in let x = machine_of w c.make-room-room.new.cells c.make-room-room.new.ring in
+    let q = refusal_outside c.args.m k s c.requires.outside ∙ c.if-is_full.ensures in
+    let r = c.make_room-room.result in let f = c.make_room-room.ensures.found in let x = machine_of w c.make_room-room.new.cells c.make_room-room.new.ring in
     record {
       stands = c.enter.ensures.stands;
       borrowed = cold_answer c.args.m k s r.frame.0 f.victim (steps_of r.steps) x (machine_of w c.enter.new.cells c.enter.new.ring) _ q c.requires.outside f.room (gone_key w r.frame f.victim r.victim f.gone) c.enter.ensures.step;

@@ -11,10 +11,10 @@ use Rattle.ring.proofs.Lists.{lies_is, kept_same}
 use Rattle.ring.proofs.States.{none_found, found_has, found_first, found_put, state_is}
 use Rattle.ring.proofs.calls.give_back.Goals as goal
 
-pub returns-in-default : goal.returns-in-default
-returns-in-default g c =
+pub returns-in_default : goal.returns-in_default
+returns-in_default g c =
     let w = g.K.Key.meaning in let f = c.args.frame.0 in let s = machine_of w c.args.cells.now c.args.ring.now in
-    let z = none_found w c.args.cells.now c.args.ring.now (lies_in f) (rows.lies_in f) (lies_is w f) (sym c.in-default.ensures) in
+    let z = none_found w c.args.cells.now c.args.ring.now (lies_in f) (rows.lies_in f) (lies_is w f) (sym c.in_default.ensures) in
     let h : ltb 0 (carries f s) ≡ false = ap (λ o. ltb 0 (loans_at o)) z in
     let e : s ≡ give_back f s = ap (λ b. cond b (returned f s) s) (sym h) in
     record { stands = c.requires; carried = sym h; step = e; facts = λ m k. k }

@@ -10,7 +10,7 @@ unfolding machine_of
 returns g c =
     let w = g.K.Key.meaning in let n = c.args.ring.now in
     let h : c.args.m ≤ n.used = omega arith in
-    full_used c.args.m n.used c.idle-count.result (count idle (machine_of w c.args.cells.now n).ring) h (idles_are w c.args.cells.now n c.idle-count.result c.idle-count.ensures)
+    full_used c.args.m n.used c.idle_count.result (count idle (machine_of w c.args.cells.now n).ring) h (idles_are w c.args.cells.now n c.idle_count.result c.idle_count.ensures)
 
 pub returns-then-ring-m : goal.returns-then-ring-m
 unfolding machine_of

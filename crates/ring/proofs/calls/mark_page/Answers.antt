@@ -10,11 +10,11 @@ use Rattle.ring.proofs.Lists.{lies_is, kept_same}
 use Rattle.ring.proofs.States.{none_found, found_has, found_put, state_is}
 use Rattle.ring.proofs.calls.mark_page.Goals as goal
 
-pub returns-in-default : goal.returns-in-default
+pub returns-in_default : goal.returns-in_default
 unfolding machine_of
-returns-in-default g c =
+returns-in_default g c =
     let w = g.K.Key.meaning in let f = c.args.frame.0 in let x = c.args.cells.now in let n = c.args.ring.now in let s = machine_of w x n in
-    let z = none_found w x n (lies_in f) (rows.lies_in f) (lies_is w f) (sym c.in-default.ensures) in
+    let z = none_found w x n (lies_in f) (rows.lies_in f) (lies_is w f) (sym c.in_default.ensures) in
     let e = state_is w x n (mark_page f c.args.altered s) (sym (replaced_none (lies_in f) (λ e. marking c.args.altered e ∷ []) s.ring z)) refl refl in
     record { stands = c.requires; step = e; facts = λ m k. k }
 

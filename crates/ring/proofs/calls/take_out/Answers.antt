@@ -10,7 +10,7 @@ use Rattle.ring.proofs.calls.take_out.Goals as goal
 pub returns : goal.returns
 unfolding machine_of
 returns g c =
-    let w = g.K.Key.meaning in let x = c.args.cells.now in let n = c.args.ring.now in let t = c.take-out in
+    let w = g.K.Key.meaning in let x = c.args.cells.now in let n = c.args.ring.now in let t = c.take_out in
     let b : Ring = record { table = t.new.table; cold = c.raise-ring.result; used = n.used } in
     record {
       stands = t.ensures.stands;

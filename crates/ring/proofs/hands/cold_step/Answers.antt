@@ -9,10 +9,10 @@ use Rattle.ring.proofs.Lists.{kept_same, free_is}
 use Rattle.ring.proofs.States.{none_found, found_has, found_passes, found_first, found_cut, found_put, found_turned, state_is}
 use Rattle.ring.proofs.hands.cold_step.Goals as goal
 
-pub returns-in-default : goal.returns-in-default
-returns-in-default g c =
+pub returns-in_default : goal.returns-in_default
+returns-in_default g c =
     let w = g.K.Key.meaning in
-    record { stands = c.requires; step = (none_found w c.args.cells.now c.args.ring.now free evictable (free_is w) (sym c.in-default.ensures), refl) }
+    record { stands = c.requires; step = (none_found w c.args.cells.now c.args.ring.now free evictable (free_is w) (sym c.in_default.ensures), refl) }
 
 pub turn-requires : goal.turn-requires
 turn-requires g c =
@@ -23,8 +23,8 @@ turn-requires g c =
       frame = kept_same c.in-Some.row.entry.frame;
     }
 
-pub turn-requires-in-default-Some-false-true : goal.turn-requires-in-default-Some-false-true
-turn-requires-in-default-Some-false-true g c =
+pub turn-requires-in_default-Some-false-true : goal.turn-requires-in_default-Some-false-true
+turn-requires-in_default-Some-false-true g c =
     let w = g.K.Key.meaning in
     record {
       stands = c.requires;
@@ -40,11 +40,11 @@ rewrite-requires g c =
       there = found_has w c.args.cells.now c.args.ring.now c.requires free evictable (free_is w) c.in-Some.row (sym c.in-Some.ensures);
       frame = tt;
       cold = λ h. absurd (false≢true h);
-      test = λ h. c.in-default-Some-true-false.is-2;
+      test = λ h. c.in_default-Some-true-false.is-2;
     }
 
-pub take-out-requires : goal.take-out-requires
-take-out-requires g c =
+pub take_out-requires : goal.take_out-requires
+take_out-requires g c =
     let w = g.K.Key.meaning in
     record { stands = c.requires; there = found_has w c.args.cells.now c.args.ring.now c.requires free evictable (free_is w) c.in-Some.row (sym c.in-Some.ensures) }
 
@@ -52,12 +52,12 @@ pub unreachable-requires : goal.unreachable-requires
 unreachable-requires g c =
     let w = g.K.Key.meaning in let e = c.in-Some.row.entry in
     let p = found_passes w c.args.cells.now c.args.ring.now c.requires free evictable (free_is w) c.in-Some.row (sym c.in-Some.ensures) in
-    false≢true (sym (ap (λ o. (is_some o && not e.hot) && unlent e) c.in-default-None-default-default.is-1) ∙ p)
+    false≢true (sym (ap (λ o. (is_some o && not e.hot) && unlent e) c.in_default-None-default-default.is-1) ∙ p)
 
-pub returns-in-default-Some-true-true : goal.returns-in-default-Some-true-true
+pub returns-in_default-Some-true-true : goal.returns-in_default-Some-true-true
 unfolding machine_of
-returns-in-default-Some-true-true g c =
-    let w = g.K.Key.meaning in let x = c.args.cells.now in let n = c.args.ring.now in let t = c.turn in let a = c.in-default-Some-true-true in
+returns-in_default-Some-true-true g c =
+    let w = g.K.Key.meaning in let x = c.args.cells.now in let n = c.args.ring.now in let t = c.turn in let a = c.in_default-Some-true-true in
     let e = entry_in w c.in-Some.row.entry in
     let b : Ring = record { table = t.new.table; cold = c.raise-ring.result; used = n.used } in
     record {
@@ -71,10 +71,10 @@ returns-in-default-Some-true-true g c =
       };
     }
 
-pub returns-in-default-Some-false-true : goal.returns-in-default-Some-false-true
+pub returns-in_default-Some-false-true : goal.returns-in_default-Some-false-true
 unfolding machine_of
-returns-in-default-Some-false-true g c =
-    let w = g.K.Key.meaning in let x = c.args.cells.now in let n = c.args.ring.now in let t = c.turn-in-default-Some-false-true in let a = c.in-default-Some-false-true in
+returns-in_default-Some-false-true g c =
+    let w = g.K.Key.meaning in let x = c.args.cells.now in let n = c.args.ring.now in let t = c.turn-in_default-Some-false-true in let a = c.in_default-Some-false-true in
     let e = entry_in w c.in-Some.row.entry in
     let b : Ring = record { table = t.new.table; cold = n.cold; used = n.used } in
     record {
@@ -88,10 +88,10 @@ returns-in-default-Some-false-true g c =
       };
     }
 
-pub returns-in-default-Some-true-false : goal.returns-in-default-Some-true-false
+pub returns-in_default-Some-true-false : goal.returns-in_default-Some-true-false
 unfolding machine_of
-returns-in-default-Some-true-false g c =
-    let w = g.K.Key.meaning in let x = c.args.cells.now in let n = c.args.ring.now in let t = c.rewrite in let a = c.in-default-Some-true-false in
+returns-in_default-Some-true-false g c =
+    let w = g.K.Key.meaning in let x = c.args.cells.now in let n = c.args.ring.now in let t = c.rewrite in let a = c.in_default-Some-true-false in
     let e = entry_in w c.in-Some.row.entry in
     let b : Ring = record { table = t.new.table; cold = n.cold; used = n.used } in
     let h = ap (λ y. cond y (evicted e ∷ []) []) a.is-2 in
@@ -106,10 +106,10 @@ returns-in-default-Some-true-false g c =
       };
     }
 
-pub returns-in-default-Some-false-false : goal.returns-in-default-Some-false-false
+pub returns-in_default-Some-false-false : goal.returns-in_default-Some-false-false
 unfolding machine_of
-returns-in-default-Some-false-false g c =
-    let w = g.K.Key.meaning in let x = c.args.cells.now in let n = c.args.ring.now in let t = c.take-out in let a = c.in-default-Some-false-false in
+returns-in_default-Some-false-false g c =
+    let w = g.K.Key.meaning in let x = c.args.cells.now in let n = c.args.ring.now in let t = c.take_out in let a = c.in_default-Some-false-false in
     let e = entry_in w c.in-Some.row.entry in
     let b : Ring = record { table = t.new.table; cold = n.cold; used = n.used } in
     let h = ap (λ y. cond y (evicted e ∷ []) []) a.is-2 in

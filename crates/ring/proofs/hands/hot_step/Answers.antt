@@ -5,8 +5,8 @@ use Rattle.ring.proofs.Lists.{kept_same}
 use Rattle.ring.proofs.States.{turned_set, turned_clear, turned_here, turned-gone, cold_hot, cold_marked, cold_unmarked, cold_past, unmarked-same, here, gone, tail_has, tail_none, tail_turned, tail_cut}
 use Rattle.ring.proofs.hands.hot_step.Goals as goal
 
-pub returns-in-default : goal.returns-in-default
-returns-in-default g c = record { stands = c.requires; step = tail_none g.K.Key.meaning c.args.cells.now c.args.ring.now c.requires (sym c.in-default.ensures) }
+pub returns-in_default : goal.returns-in_default
+returns-in_default g c = record { stands = c.requires; step = tail_none g.K.Key.meaning c.args.cells.now c.args.ring.now c.requires (sym c.in_default.ensures) }
 
 pub turn-requires : goal.turn-requires
 turn-requires g c = record {
@@ -68,7 +68,7 @@ returns-in-false-Some-false-default g c =
 pub returns-in-false-None-default-default : goal.returns-in-false-None-default-default
 returns-in-false-None-default-default g c =
     let w = g.K.Key.meaning in let n = c.args.ring.now in let e = entry_in w c.in-Some.row.entry in
-    let t = c.take-out in let a = c.in-false-None-default-default in let l = c.lower-ring-in-false-None-default-default in
+    let t = c.take_out in let a = c.in-false-None-default-default in let l = c.lower-ring-in-false-None-default-default in
     let h = gone c.in-Some.row.entry.frame a.is-1 in
     let b : Ring = record { table = t.new.table; cold = l.result; used = n.used } in
     record {

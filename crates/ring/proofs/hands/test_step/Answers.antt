@@ -9,16 +9,16 @@ use Rattle.ring.proofs.Lists.{kept_same}
 use Rattle.ring.proofs.States.{here, gone, none_found, found_has, found_cut, found_put, state_is}
 use Rattle.ring.proofs.hands.test_step.Goals as goal
 
-pub returns-in-default : goal.returns-in-default
+pub returns-in_default : goal.returns-in_default
 unfolding machine_of
-returns-in-default g c =
+returns-in_default g c =
     let w = g.K.Key.meaning in let x = c.args.cells.now in let n = c.args.ring.now in
     let b : Ring = record { table = n.table; cold = c.lower-ring.result; used = n.used } in
-    let z = none_found w x n marked (λ e. e.test) (λ e. refl) (sym c.in-default.ensures) in
+    let z = none_found w x n marked (λ e. e.test) (λ e. refl) (sym c.in_default.ensures) in
     record { stands = c.requires; step = state_is w x b (test_step (machine_of w x n)) (sym (replaced_none marked tested (machine_of w x n).ring z)) c.lower-ring.ensures refl }
 
-pub take-out-requires : goal.take-out-requires
-take-out-requires g c = record {
+pub take_out-requires : goal.take_out-requires
+take_out-requires g c = record {
   stands = c.requires;
   there = found_has g.K.Key.meaning c.args.cells.now c.args.ring.now c.requires marked (λ e. e.test) (λ e. refl) c.in-Some.row (sym c.in-Some.ensures);
 }
@@ -35,7 +35,7 @@ rewrite-requires g c = record {
 pub returns-in-None : goal.returns-in-None
 unfolding machine_of
 returns-in-None g c =
-    let w = g.K.Key.meaning in let x = c.args.cells.now in let n = c.args.ring.now in let t = c.take-out in
+    let w = g.K.Key.meaning in let x = c.args.cells.now in let n = c.args.ring.now in let t = c.take_out in
     let e = entry_in w c.in-Some.row.entry in
     let b : Ring = record { table = t.new.table; cold = c.lower-ring.result; used = n.used } in
     let h = ap (λ y. cond y (unmarked e ∷ []) []) (gone c.in-Some.row.entry.frame c.in-None.is) in

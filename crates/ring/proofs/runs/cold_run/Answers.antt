@@ -8,8 +8,8 @@ use Rattle.ring.proofs.runs.cold_run.Goals as goal
 pub loop-cells-init : goal.loop-cells-init
 loop-cells-init g c = (cold_begins c.args.m (machine_of g.K.Key.meaning c.args.cells.now c.args.ring.now) c.requires.facts c.requires.unlent, c.requires.stands)
 
-pub overflow-add-hot : goal.overflow-add-hot
-overflow-add-hot g c =
+pub overflow_add-hot : goal.overflow_add-hot
+overflow_add-hot g c =
     let M = machine_of g.K.Key.meaning in
     let h = cold_small c.args.m (M c.args.cells.now c.args.ring.now) (steps c.loop-cells.cold c.loop-cells.hot 0) (M c.loop-cells.cells c.loop-cells.ring) c.requires.frames c.requires.facts c.loop-cells.invariant.0 in
     omega arith
@@ -18,56 +18,56 @@ pub loop-cells-smaller-in-NoCandidate : goal.loop-cells-smaller-in-NoCandidate
 loop-cells-smaller-in-NoCandidate g c =
     let M = machine_of g.K.Key.meaning in
     hot_less c.args.m (M c.args.cells.now c.args.ring.now) c.loop-cells.cold c.loop-cells.hot (M c.loop-cells.cells c.loop-cells.ring) c.loop-cells.invariant.0
-    (M c.cold-step.new.cells c.cold-step.new.ring) (M c.hot-step.new.cells c.hot-step.new.ring) c.in-NoCandidate.ensures.step c.hot-step.ensures.step
+    (M c.cold_step.new.cells c.cold_step.new.ring) (M c.hot_step.new.cells c.hot_step.new.ring) c.in-NoCandidate.ensures.step c.hot_step.ensures.step
 
 pub loop-cells-preserved-in-NoCandidate : goal.loop-cells-preserved-in-NoCandidate
 loop-cells-preserved-in-NoCandidate g c =
     let M = machine_of g.K.Key.meaning in (
       hot_round c.args.m (M c.args.cells.now c.args.ring.now) c.loop-cells.cold c.loop-cells.hot (M c.loop-cells.cells c.loop-cells.ring) c.loop-cells.invariant.0
-          (M c.cold-step.new.cells c.cold-step.new.ring) (M c.hot-step.new.cells c.hot-step.new.ring) c.in-NoCandidate.ensures.step c.hot-step.ensures.step,
-      c.hot-step.ensures.stands,
+          (M c.cold_step.new.cells c.cold_step.new.ring) (M c.hot_step.new.cells c.hot_step.new.ring) c.in-NoCandidate.ensures.step c.hot_step.ensures.step,
+      c.hot_step.ensures.stands,
     )
 
-pub hot-run-made-requires : goal.hot-run-made-requires
-hot-run-made-requires g c =
+pub hot_run-made-requires : goal.hot_run-made-requires
+hot_run-made-requires g c =
     let M = machine_of g.K.Key.meaning in
     record {
       frames = c.requires.frames;
       stands = c.in-Promoted.ensures.stands;
       facts = promoted_mid c.args.m (M c.args.cells.now c.args.ring.now) c.loop-cells.cold c.loop-cells.hot (M c.loop-cells.cells c.loop-cells.ring) c.loop-cells.invariant.0
-          (M c.cold-step.new.cells c.cold-step.new.ring) c.in-Promoted.ensures.step;
+          (M c.cold_step.new.cells c.cold_step.new.ring) c.in-Promoted.ensures.step;
     }
 
-pub overflow-add-cold : goal.overflow-add-cold
-overflow-add-cold g c =
+pub overflow_add-cold : goal.overflow_add-cold
+overflow_add-cold g c =
     let M = machine_of g.K.Key.meaning in
     let h = cold_small c.args.m (M c.args.cells.now c.args.ring.now) (steps c.loop-cells.cold c.loop-cells.hot 0) (M c.loop-cells.cells c.loop-cells.ring) c.requires.frames c.requires.facts c.loop-cells.invariant.0 in
     omega arith
 
-pub overflow-add-hot-in-Promoted : goal.overflow-add-hot-in-Promoted
-overflow-add-hot-in-Promoted g c =
-    let M = machine_of g.K.Key.meaning in let s = M c.args.cells.now c.args.ring.now in let z = M c.hot-run-made.new.cells c.hot-run-made.new.ring in
+pub overflow_add-hot-in-Promoted : goal.overflow_add-hot-in-Promoted
+overflow_add-hot-in-Promoted g c =
+    let M = machine_of g.K.Key.meaning in let s = M c.args.cells.now c.args.ring.now in let z = M c.hot_run-made.new.cells c.hot_run-made.new.ring in
     let k = promote_round c.args.m s c.loop-cells.cold c.loop-cells.hot (M c.loop-cells.cells c.loop-cells.ring) c.loop-cells.invariant.0
-    (M c.cold-step.new.cells c.cold-step.new.ring) z c.hot-run-made.result c.in-Promoted.ensures.step c.hot-run-made.ensures.run in
-    let h = cold_small c.args.m s (steps (c.loop-cells.cold + 1) (c.loop-cells.hot + c.hot-run-made.result) 0) z c.requires.frames c.requires.facts k in
+    (M c.cold_step.new.cells c.cold_step.new.ring) z c.hot_run-made.result c.in-Promoted.ensures.step c.hot_run-made.ensures.run in
+    let h = cold_small c.args.m s (steps (c.loop-cells.cold + 1) (c.loop-cells.hot + c.hot_run-made.result) 0) z c.requires.frames c.requires.facts k in
     omega arith
 
 pub loop-cells-smaller-in-Promoted : goal.loop-cells-smaller-in-Promoted
 loop-cells-smaller-in-Promoted g c =
     let M = machine_of g.K.Key.meaning in
     promote_less c.args.m (M c.args.cells.now c.args.ring.now) c.loop-cells.cold c.loop-cells.hot (M c.loop-cells.cells c.loop-cells.ring) c.loop-cells.invariant.0
-    (M c.cold-step.new.cells c.cold-step.new.ring) (M c.hot-run-made.new.cells c.hot-run-made.new.ring) c.hot-run-made.result c.in-Promoted.ensures.step c.hot-run-made.ensures.run
+    (M c.cold_step.new.cells c.cold_step.new.ring) (M c.hot_run-made.new.cells c.hot_run-made.new.ring) c.hot_run-made.result c.in-Promoted.ensures.step c.hot_run-made.ensures.run
 
 pub loop-cells-preserved-in-Promoted : goal.loop-cells-preserved-in-Promoted
 loop-cells-preserved-in-Promoted g c =
     let M = machine_of g.K.Key.meaning in (
       promote_round c.args.m (M c.args.cells.now c.args.ring.now) c.loop-cells.cold c.loop-cells.hot (M c.loop-cells.cells c.loop-cells.ring) c.loop-cells.invariant.0
-          (M c.cold-step.new.cells c.cold-step.new.ring) (M c.hot-run-made.new.cells c.hot-run-made.new.ring) c.hot-run-made.result c.in-Promoted.ensures.step c.hot-run-made.ensures.run,
-      c.hot-run-made.ensures.stands,
+          (M c.cold_step.new.cells c.cold_step.new.ring) (M c.hot_run-made.new.cells c.hot_run-made.new.ring) c.hot_run-made.result c.in-Promoted.ensures.step c.hot_run-made.ensures.run,
+      c.hot_run-made.ensures.stands,
     )
 
-pub overflow-add-cold-in-Retested : goal.overflow-add-cold-in-Retested
-overflow-add-cold-in-Retested g c =
+pub overflow_add-cold-in-Retested : goal.overflow_add-cold-in-Retested
+overflow_add-cold-in-Retested g c =
     let M = machine_of g.K.Key.meaning in
     let h = cold_small c.args.m (M c.args.cells.now c.args.ring.now) (steps c.loop-cells.cold c.loop-cells.hot 0) (M c.loop-cells.cells c.loop-cells.ring) c.requires.frames c.requires.facts c.loop-cells.invariant.0 in
     omega arith
@@ -76,18 +76,18 @@ pub loop-cells-smaller : goal.loop-cells-smaller
 loop-cells-smaller g c =
     let M = machine_of g.K.Key.meaning in
     retest_less c.args.m (M c.args.cells.now c.args.ring.now) c.loop-cells.cold c.loop-cells.hot (M c.loop-cells.cells c.loop-cells.ring) c.loop-cells.invariant.0
-    (M c.cold-step.new.cells c.cold-step.new.ring) c.in-Retested.ensures.step
+    (M c.cold_step.new.cells c.cold_step.new.ring) c.in-Retested.ensures.step
 
 pub loop-cells-preserved : goal.loop-cells-preserved
 loop-cells-preserved g c =
     let M = machine_of g.K.Key.meaning in (
       retest_round c.args.m (M c.args.cells.now c.args.ring.now) c.loop-cells.cold c.loop-cells.hot (M c.loop-cells.cells c.loop-cells.ring) c.loop-cells.invariant.0
-          (M c.cold-step.new.cells c.cold-step.new.ring) c.in-Retested.ensures.step,
+          (M c.cold_step.new.cells c.cold_step.new.ring) c.in-Retested.ensures.step,
       c.in-Retested.ensures.stands,
     )
 
-pub test-run-test-requires : goal.test-run-test-requires
-test-run-test-requires g c =
+pub test_run-test-requires : goal.test_run-test-requires
+test_run-test-requires g c =
     let M = machine_of g.K.Key.meaning in
     record {
       frames = c.requires.frames;
@@ -95,24 +95,24 @@ test-run-test-requires g c =
       facts = (
         Some c.in-Evicted.frame.0,
         evicted_mid c.args.m (M c.args.cells.now c.args.ring.now) c.loop-cells.cold c.loop-cells.hot (M c.loop-cells.cells c.loop-cells.ring) c.loop-cells.invariant.0
-            g.K.Key.meaning c.in-Evicted.frame c.in-Evicted.victim (M c.cold-step.new.cells c.cold-step.new.ring) c.in-Evicted.ensures.step,
+            g.K.Key.meaning c.in-Evicted.frame c.in-Evicted.victim (M c.cold_step.new.cells c.cold_step.new.ring) c.in-Evicted.ensures.step,
       );
     }
 
-pub overflow-add-steps : goal.overflow-add-steps
-overflow-add-steps g c =
+pub overflow_add-steps : goal.overflow_add-steps
+overflow_add-steps g c =
     let M = machine_of g.K.Key.meaning in
     let h = cold_small c.args.m (M c.args.cells.now c.args.ring.now) (steps c.loop-cells.cold c.loop-cells.hot 0) (M c.loop-cells.cells c.loop-cells.ring) c.requires.frames c.requires.facts c.loop-cells.invariant.0 in
     omega arith
 
 pub returns : goal.returns
 returns g c =
-    let M = machine_of g.K.Key.meaning in let s = M c.args.cells.now c.args.ring.now in let t = M c.test-run-test.new.cells c.test-run-test.new.ring in
+    let M = machine_of g.K.Key.meaning in let s = M c.args.cells.now c.args.ring.now in let t = M c.test_run-test.new.cells c.test_run-test.new.ring in
     let e = c.in-Evicted.ensures.step in
     let r = run_ends c.args.m s c.loop-cells.cold c.loop-cells.hot (M c.loop-cells.cells c.loop-cells.ring) c.loop-cells.invariant.0
-    g.K.Key.meaning c.in-Evicted.frame c.in-Evicted.victim (M c.cold-step.new.cells c.cold-step.new.ring) e c.test-run-test.result t c.test-run-test.ensures.run in
+    g.K.Key.meaning c.in-Evicted.frame c.in-Evicted.victim (M c.cold_step.new.cells c.cold_step.new.ring) e c.test_run-test.result t c.test_run-test.ensures.run in
     record {
-      stands = c.test-run-test.ensures.stands;
+      stands = c.test_run-test.ensures.stands;
       run = record { victim = e.candidate; run = r; sent = e.sent };
-      facts = freed_mid c.args.m s (steps (c.loop-cells.cold + 1) c.loop-cells.hot c.test-run-test.result) e.candidate t c.in-Evicted.frame.0 r c.requires.facts c.requires.unlent e.sent.lies;
+      facts = freed_mid c.args.m s (steps (c.loop-cells.cold + 1) c.loop-cells.hot c.test_run-test.result) e.candidate t c.in-Evicted.frame.0 r c.requires.facts c.requires.unlent e.sent.lies;
     }

@@ -5,4 +5,4 @@ use Rattle.ring.proofs.runs.is_too_hot.Goals as goal
 
 pub returns : goal.returns
 unfolding machine_of
-returns g c = ap₂ ltb c.saturating-sub.ensures (hots_are g.K.Key.meaning c.args.cells.now c.args.ring.now c.hot-count.result c.hot-count.ensures)
+returns g c = ap₂ ltb c.saturating_sub.ensures (hots_are g.K.Key.meaning c.args.cells.now c.args.ring.now c.hot_count.result c.hot_count.ensures)

@@ -11,8 +11,8 @@ returns-then-ring-m g c = record {
   found = record { victim = None; room = unused (lt-ltb c.args.ring.now.used c.args.m c.if-ring-m.true); gone = tt };
 }
 
-pub cold-run-freed-requires : goal.cold-run-freed-requires
-cold-run-freed-requires g c = record {
+pub cold_run-freed-requires : goal.cold_run-freed-requires
+cold_run-freed-requires g c = record {
   frames = c.requires.frames;
   stands = c.requires.stands;
   facts = c.requires.facts;
@@ -22,9 +22,9 @@ cold-run-freed-requires g c = record {
 pub returns : goal.returns
 unfolding machine_of
 returns g c =
-    let r = c.cold-run-freed.ensures.run in
+    let r = c.cold_run-freed.ensures.run in
     record {
-      stands = c.cold-run-freed.ensures.stands;
+      stands = c.cold_run-freed.ensures.stands;
       found = record {
         victim = Some r.victim;
         room = freed (le-ltb c.args.ring.now.used c.args.m c.if-ring-m.false) r.run r.sent.lies;

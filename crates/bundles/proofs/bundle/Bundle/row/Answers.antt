@@ -23,5 +23,5 @@ returns c =
     let i = c.args.i in
     let r = row_at part i in
     let e = slice_get-get_or (rows_in part n) i r (omega (arith, length-map-range_with_len (row_at part) 0 n)) ∙ ap (λ (x : Row). Some x) (get_or-map-range_with_len (row_at part) 0 n i i r (omega arith) (omega arith)) in
-    let f = c.row-at-row.ensures in
-    ap (λ (x : Listing). Some x) (listing_is r _ _ _ f.delivery (c.unit-numbered.ensures ∙ ap unit_of f.unit) f.pages) ∙ sym (ap (option_map listed) e)
+    let f = c.row_at-row.ensures in
+    ap (λ (x : Listing). Some x) (listing_is r _ _ _ f.delivery (c.unit_numbered.ensures ∙ ap unit_of f.unit) f.pages) ∙ sym (ap (option_map listed) e)

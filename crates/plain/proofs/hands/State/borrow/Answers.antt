@@ -18,15 +18,15 @@ miss-requires g c =
       frames = c.requires.frames;
       facts = c.requires.facts;
       memory = c.requires.memory;
-      away = away_outside k s c.in-default.ensures;
-      question = refusal_outside c.args.m k s c.in-default.ensures;
+      away = away_outside k s c.in_default.ensures;
+      question = refusal_outside c.args.m k s c.in_default.ensures;
     }
 
-pub miss-requires-in-default-frame : goal.miss-requires-in-default-frame
-miss-requires-in-default-frame g c =
+pub miss-requires-in_default-frame : goal.miss-requires-in_default-frame
+miss-requires-in_default-frame g c =
     let w = g.K.Key.meaning in let k = w c.args.key in let s = machine_of w c.args.self.now in let e = entry_of w c.in-Some.spot.entry in
     let j = found_first w (Named c.args.key) (vec_items c.args.self.now.ring) c.in-Some.spot.at c.in-Some.spot.entry c.in-Some.ensures in
-    let i = ap frame_of c.in-default-frame.is in
+    let i = ap frame_of c.in_default-frame.is in
     record { frames = c.requires.frames; facts = c.requires.facts; memory = c.requires.memory; away = away_remembered k s e j i; question = refusal-remembered c.args.m k s e j i }
 
 pub returns-then-spot : goal.returns-then-spot

@@ -8,18 +8,18 @@ use Rattle.plain.proofs.hands.State.cold_run.Goals as goal
 pub loop-c-init : goal.loop-c-init
 loop-c-init g c = (cold_begins c.args.m (machine_of g.K.Key.meaning c.args.self.now) c.requires.facts c.requires.unlent, refl)
 
-pub overflow-add-cold : goal.overflow-add-cold
-overflow-add-cold g c =
+pub overflow_add-cold : goal.overflow_add-cold
+overflow_add-cold g c =
     let M = machine_of g.K.Key.meaning in let s = M c.args.self.now in
     let k = turn_kept c.args.m s c.loop-c.cold c.loop-c.hot c.loop-c.invariant.0 c.in-On.ensures.turned in
-    let h = cold_small c.args.m s (steps (c.loop-c.cold + c.in-On.c) (c.loop-c.hot + c.in-On.h) 0) (M c.cold-turn.new.self) c.requires.frames c.requires.facts k in
+    let h = cold_small c.args.m s (steps (c.loop-c.cold + c.in-On.c) (c.loop-c.hot + c.in-On.h) 0) (M c.cold_turn.new.self) c.requires.frames c.requires.facts k in
     omega arith
 
-pub overflow-add-hot : goal.overflow-add-hot
-overflow-add-hot g c =
+pub overflow_add-hot : goal.overflow_add-hot
+overflow_add-hot g c =
     let M = machine_of g.K.Key.meaning in let s = M c.args.self.now in
     let k = turn_kept c.args.m s c.loop-c.cold c.loop-c.hot c.loop-c.invariant.0 c.in-On.ensures.turned in
-    let h = cold_small c.args.m s (steps (c.loop-c.cold + c.in-On.c) (c.loop-c.hot + c.in-On.h) 0) (M c.cold-turn.new.self) c.requires.frames c.requires.facts k in
+    let h = cold_small c.args.m s (steps (c.loop-c.cold + c.in-On.c) (c.loop-c.hot + c.in-On.h) 0) (M c.cold_turn.new.self) c.requires.frames c.requires.facts k in
     omega arith
 
 pub loop-c-smaller : goal.loop-c-smaller
@@ -34,11 +34,11 @@ loop-c-preserved g c = (
   c.in-On.ensures.memory ∙ c.loop-c.invariant.1,
 )
 
-pub cold-turn-requires : goal.cold-turn-requires
-cold-turn-requires g c = record { frames = c.requires.frames; facts = c.loop-c.invariant.0.mid; unlent = c.loop-c.invariant.0.unlent }
+pub cold_turn-requires : goal.cold_turn-requires
+cold_turn-requires g c = record { frames = c.requires.frames; facts = c.loop-c.invariant.0.mid; unlent = c.loop-c.invariant.0.unlent }
 
-pub overflow-add-result : goal.overflow-add-result
-overflow-add-result g c =
+pub overflow_add-result : goal.overflow_add-result
+overflow_add-result g c =
     let M = machine_of g.K.Key.meaning in
     let h = cold_small c.args.m (M c.args.self.now) (steps c.loop-c.cold c.loop-c.hot 0) (M c.loop-c.self) c.requires.frames c.requires.facts c.loop-c.invariant.0 in
     omega arith

@@ -7,5 +7,5 @@ use Rattle.plain.proofs.hands.State.evict.Goals as goal
 pub returns : goal.returns
 returns g c =
     let m = g.K.Key.meaning in let s = c.args.self.now in
-    let a = found_put m Free (vec_items s.ring) c.args.at c.args.e c.requires.found left c.after-eviction.result (vec_items c.put.new.ring) c.after-eviction.ensures c.put.ensures.items in
+    let a = found_put m Free (vec_items s.ring) c.args.at c.args.e c.requires.found left c.after_eviction.result (vec_items c.put.new.ring) c.after_eviction.ensures c.put.ensures.items in
     record { step = λ i. record { ring = a i; cold = s.cold; used = s.used }; memory = c.put.ensures.capacity }

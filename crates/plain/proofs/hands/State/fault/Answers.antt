@@ -28,8 +28,8 @@ enter-requires g c =
     let p = place-left w c.args.m x (vec_capacity c.args.self.now.ring) (recalled_if c.args.m k b s) r.frame.0 f.victim (steps_of r.steps) d c.requires.memory in
     subst (λ n. vec_len x.ring < n) (sym (c.room-room.ensures.memory ∙ c.recall-remembered.ensures.memory)) p
 
-pub hot-run-hot-requires : goal.hot-run-hot-requires
-hot-run-hot-requires g c =
+pub hot_run-hot-requires : goal.hot_run-hot-requires
+hot_run-hot-requires g c =
     let w = g.K.Key.meaning in let k = w c.args.key in let s = machine_of w c.args.self.now in let b = c.recall-remembered.result in
     let f = c.room-room.ensures.found in let r = c.room-room.result in let x = c.room-room.new.self in
     let q = ready c.args.m k s b c.requires.facts c.requires.due c.requires.away c.recall-remembered.ensures.there in
@@ -40,16 +40,16 @@ hot-run-hot-requires g c =
       facts = subst (λ y. Mid c.args.m None y) (sym c.enter.ensures.step) (ready_entered c.args.m k (recalled_if c.args.m k b s) b r.frame.0 f.victim (steps_of r.steps) (machine_of w x) d);
     }
 
-pub overflow-add-steps : goal.overflow-add-steps
-overflow-add-steps g c =
+pub overflow_add-steps : goal.overflow_add-steps
+overflow_add-steps g c =
     let w = g.K.Key.meaning in let k = w c.args.key in let s = machine_of w c.args.self.now in let b = c.recall-remembered.result in
     let f = c.room-room.ensures.found in let r = c.room-room.result in let x = c.room-room.new.self in
     let q = ready c.args.m k s b c.requires.facts c.requires.due c.requires.away c.recall-remembered.ensures.there in
     let o = subst (λ y. Room c.args.m y r.frame.0 f.victim (steps_of r.steps) (machine_of w x)) c.recall-remembered.ensures.step f.room in
     let d = ready_roomed c.args.m (recalled_if c.args.m k b s) r.frame.0 f.victim (steps_of r.steps) (machine_of w x) q o in
     let y = subst (λ y. Mid c.args.m None y) (sym c.enter.ensures.step) (ready_entered c.args.m k (recalled_if c.args.m k b s) b r.frame.0 f.victim (steps_of r.steps) (machine_of w x) d) in
-    let h = fault_steps c.args.m (recalled_if c.args.m k b s) r.frame.0 f.victim (steps_of r.steps) (machine_of w x) (machine_of w c.enter.new.self) (machine_of w c.hot-run-hot.new.self) c.hot-run-hot.result
-    c.requires.frames q d y c.hot-run-hot.ensures.run in
+    let h = fault_steps c.args.m (recalled_if c.args.m k b s) r.frame.0 f.victim (steps_of r.steps) (machine_of w x) (machine_of w c.enter.new.self) (machine_of w c.hot_run-hot.new.self) c.hot_run-hot.result
+    c.requires.frames q d y c.hot_run-hot.ensures.run in
     omega arith
 
 pub returns-then-not-remembered : goal.returns-then-not-remembered
@@ -69,7 +69,7 @@ returns g c =
     let f = c.room-room.ensures.found in let r = c.room-room.result in let x = c.room-room.new.self in
     let o = subst (λ y. Room c.args.m y r.frame.0 f.victim (steps_of r.steps) (machine_of w x)) c.recall-remembered.ensures.step f.room in
     record {
-      borrowed = test_answer c.args.m k s b r.frame.0 f.victim (steps_of r.steps) (machine_of w x) (machine_of w c.enter.new.self) c.hot-run-hot.result (machine_of w c.hot-run-hot.new.self) _
-          c.requires.due c.requires.away c.recall-remembered.ensures.there c.if-not-remembered.false o f.named c.enter.ensures.step c.hot-run-hot.ensures.run;
-      memory = c.hot-run-hot.ensures.memory ∙ c.enter.ensures.memory ∙ c.room-room.ensures.memory ∙ c.recall-remembered.ensures.memory;
+      borrowed = test_answer c.args.m k s b r.frame.0 f.victim (steps_of r.steps) (machine_of w x) (machine_of w c.enter.new.self) c.hot_run-hot.result (machine_of w c.hot_run-hot.new.self) _
+          c.requires.due c.requires.away c.recall-remembered.ensures.there c.if-not-remembered.false o f.named c.enter.ensures.step c.hot_run-hot.ensures.run;
+      memory = c.hot_run-hot.ensures.memory ∙ c.enter.ensures.memory ∙ c.room-room.ensures.memory ∙ c.recall-remembered.ensures.memory;
     }

@@ -5,8 +5,8 @@ use Rattle.machine.proofs.Loops.{HotLoop, hot_begins, hot_turns, hot_falls, hot_
 use Rattle.plain.specs.Hands.{machine_of}
 use Rattle.plain.proofs.hands.State.hot_run.Goals as goal
 
-pub overflow-add-steps : goal.overflow-add-steps
-overflow-add-steps g c =
+pub overflow_add-steps : goal.overflow_add-steps
+overflow_add-steps g c =
     let M = machine_of g.K.Key.meaning in
     let h = hot_small c.args.m None (M c.args.self.now) c.loop-self.steps (M c.loop-self.self) c.requires.frames c.requires.facts c.loop-self.invariant.0 in
     omega arith
@@ -15,7 +15,7 @@ pub loop-self-smaller : goal.loop-self-smaller
 loop-self-smaller g c =
     let M = machine_of g.K.Key.meaning in
     let h = hot_falls c.args.m None (M c.loop-self.self) c.loop-self.invariant.0.mid (sym c.loop-self-test.ensures) in
-    subst (λ x. suc (work x.ring) ≤ work (M c.loop-self.self).ring) (sym c.hot-step.ensures.step) h
+    subst (λ x. suc (work x.ring) ≤ work (M c.loop-self.self).ring) (sym c.hot_step.ensures.step) h
 
 pub loop-self-init : goal.loop-self-init
 loop-self-init g c = (hot_begins c.args.m None (machine_of g.K.Key.meaning c.args.self.now) c.requires.facts, refl)
@@ -24,7 +24,7 @@ pub loop-self-preserved : goal.loop-self-preserved
 loop-self-preserved g c =
     let M = machine_of g.K.Key.meaning in
     let h = hot_turns c.args.m None (M c.args.self.now) c.loop-self.steps (M c.loop-self.self) c.loop-self.invariant.0 (sym c.loop-self-test.ensures) in
-    (subst (λ x. HotLoop c.args.m None (M c.args.self.now) (c.loop-self.steps + 1) x) (sym c.hot-step.ensures.step) h, c.hot-step.ensures.memory ∙ c.loop-self.invariant.1)
+    (subst (λ x. HotLoop c.args.m None (M c.args.self.now) (c.loop-self.steps + 1) x) (sym c.hot_step.ensures.step) h, c.hot_step.ensures.memory ∙ c.loop-self.invariant.1)
 
 pub returns : goal.returns
 returns g c =

@@ -20,5 +20,5 @@ returns g c =
     let m = g.K.Key.meaning in let s = c.args.self.now in let es = vec_items s.ring in
     let o = s.ring.ok.0 in let n = c.len.ensures in let t = c.if-len-eq0.false in
     let h : 0 < length es = omega arith in
-    let a = hot_placed_at m es c.index.result.now c.after-hot-step.result s.cold s.used c.cold-after-hot-step-self.result h c.index.ensures c.after-hot-step.ensures c.cold-after-hot-step-self.ensures in
-    record { step = ap (λ l. record { ring = entries_of m l; cold = c.cold-after-hot-step-self.result; used = s.used }) c.to-head.ensures.items ∙ a; memory = c.to-head.ensures.capacity }
+    let a = hot_placed_at m es c.index.result.now c.after_hot_step.result s.cold s.used c.cold_after_hot_step-self.result h c.index.ensures c.after_hot_step.ensures c.cold_after_hot_step-self.ensures in
+    record { step = ap (λ l. record { ring = entries_of m l; cold = c.cold_after_hot_step-self.result; used = s.used }) c.to_head.ensures.items ∙ a; memory = c.to_head.ensures.capacity }

@@ -7,10 +7,10 @@ use Rattle.plain.specs.Entries.{entries_of}
 use Rattle.plain.proofs.Placing.{found_put}
 use Rattle.plain.proofs.hands.State.mark_page.Goals as goal
 
-pub returns-in-default : goal.returns-in-default
-returns-in-default g c =
+pub returns-in_default : goal.returns-in_default
+returns-in_default g c =
     let m = g.K.Key.meaning in let s = c.args.self.now in
-    let a = sym (replaced_none (model.lies_in c.args.frame.0) (λ e. marking c.args.altered e ∷ []) (entries_of m (vec_items s.ring)) c.in-default.ensures) in
+    let a = sym (replaced_none (model.lies_in c.args.frame.0) (λ e. marking c.args.altered e ∷ []) (entries_of m (vec_items s.ring)) c.in_default.ensures) in
     record { step = λ i. record { ring = a i; cold = s.cold; used = s.used }; memory = refl }
 
 pub returns : goal.returns

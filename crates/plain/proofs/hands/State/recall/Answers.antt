@@ -3,8 +3,8 @@ use Rattle.plain.specs.declared.entries.Question.TheVariants.{Named}
 use Rattle.plain.proofs.Placing.{found_first, found_put}
 use Rattle.plain.proofs.hands.State.recall.Goals as goal
 
-pub returns-in-default : goal.returns-in-default
-returns-in-default g c = record { there = sym (ap is_some c.in-default.ensures); step = refl; memory = refl }
+pub returns-in_default : goal.returns-in_default
+returns-in_default g c = record { there = sym (ap is_some c.in_default.ensures); step = refl; memory = refl }
 
 pub returns : goal.returns
 returns g c =

@@ -12,21 +12,21 @@ returns-then-self-m g c = record {
   memory = refl;
 }
 
-pub cold-run-sent-requires : goal.cold-run-sent-requires
-cold-run-sent-requires g c = record { frames = c.requires.frames; facts = c.requires.facts; unlent = c.requires.unlent (le-ltb c.args.self.now.used c.args.m c.if-self-m.false) }
+pub cold_run-sent-requires : goal.cold_run-sent-requires
+cold_run-sent-requires g c = record { frames = c.requires.frames; facts = c.requires.facts; unlent = c.requires.unlent (le-ltb c.args.self.now.used c.args.m c.if-self-m.false) }
 
 pub unreachable-requires : goal.unreachable-requires
 unreachable-requires g c =
     let u = c.requires.unlent (le-ltb c.args.self.now.used c.args.m c.if-self-m.false) in
-    let z = cold_run_sent c.args.m c.cold-run-sent.ensures.run c.requires.facts u in
-    none_some (frame_of c.cold-run-sent.result.victim.frame) z.freed (ap frame_of c.in-None.is) z.lies
+    let z = cold_run_sent c.args.m c.cold_run-sent.ensures.run c.requires.facts u in
+    none_some (frame_of c.cold_run-sent.result.victim.frame) z.freed (ap frame_of c.in-None.is) z.lies
 
 pub returns : goal.returns
 returns g c = record {
   found = record {
-    victim = Some (entry_of g.K.Key.meaning c.cold-run-sent.result.victim);
-    room = freed (le-ltb c.args.self.now.used c.args.m c.if-self-m.false) c.cold-run-sent.ensures.run (ap frame_of c.in-Some.is);
+    victim = Some (entry_of g.K.Key.meaning c.cold_run-sent.result.victim);
+    room = freed (le-ltb c.args.self.now.used c.args.m c.if-self-m.false) c.cold_run-sent.ensures.run (ap frame_of c.in-Some.is);
     named = refl;
   };
-  memory = c.cold-run-sent.ensures.memory;
+  memory = c.cold_run-sent.ensures.memory;
 }

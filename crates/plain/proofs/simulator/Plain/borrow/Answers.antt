@@ -6,8 +6,8 @@ use Rattle.plain.proofs.simulator.Plain.borrow.Goals as goal
 pub borrow-requires : goal.borrow-requires
 borrow-requires g c = let p = c.args.self.now in record { frames = p.few; facts = opened_facts g.K.Key.meaning p.frames None p.state p.facts; memory = p.memory }
 
-pub invariant-of-self : goal.invariant-of-self
-invariant-of-self g c =
+pub invariant_of-self : goal.invariant_of-self
+invariant_of-self g c =
     let p = c.args.self.now in let w = g.K.Key.meaning in (
       p.few,
       (

@@ -5,15 +5,15 @@ use Rattle.plain.specs.Hands.{machine_of}
 use Rattle.plain.proofs.Once.{opened_facts, closed_facts}
 use Rattle.plain.proofs.simulator.Plain.mark_page.Goals as goal
 
-pub invariant-of-self : goal.invariant-of-self
-invariant-of-self g c =
+pub invariant_of-self : goal.invariant_of-self
+invariant_of-self g c =
     let p = c.args.self.now in let w = g.K.Key.meaning in (
       p.few,
       (
-        subst (λ n. 2 * p.frames ≤ n) (sym c.mark-page.ensures.memory) p.memory,
+        subst (λ n. 2 * p.frames ≤ n) (sym c.mark_page.ensures.memory) p.memory,
         (
-          closed_facts w p.frames None c.mark-page.new.self
-              (subst (λ s. Mid p.frames None s) (sym c.mark-page.ensures.step) (mark_mid p.frames c.args.frame.0 c.args.altered (machine_of w p.state) (opened_facts w p.frames None p.state p.facts))),
+          closed_facts w p.frames None c.mark_page.new.self
+              (subst (λ s. Mid p.frames None s) (sym c.mark_page.ensures.step) (mark_mid p.frames c.args.frame.0 c.args.altered (machine_of w p.state) (opened_facts w p.frames None p.state p.facts))),
           tt,
         ),
       ),

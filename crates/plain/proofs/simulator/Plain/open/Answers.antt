@@ -5,8 +5,8 @@ use Rattle.plain.specs.Entries.{entries_of}
 use Rattle.plain.proofs.Once.{closed_facts}
 use Rattle.plain.proofs.simulator.Plain.open.Goals as goal
 
-pub invariant-of-result : goal.invariant-of-result
-invariant-of-result g c =
+pub invariant_of-result : goal.invariant_of-result
+invariant_of-result g c =
     let m = c.args.frames in let w = g.K.Key.meaning in (
       c.if-frames-gt4096.false,
       (

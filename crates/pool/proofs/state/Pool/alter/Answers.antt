@@ -5,22 +5,22 @@ use Rattle.pool.specs.Reading.{altered_by}
 use Rattle.pool.proofs.Owed.{fits_at, unfit_at, asked_fit, asked-misfit, loans_altered}
 use Rattle.pool.proofs.state.Pool.alter.Goals as goal
 
-pub returns-in-err-fits : goal.returns-in-err-fits
-returns-in-err-fits g c =
+pub returns-in_err-fits : goal.returns-in_err-fits
+returns-in_err-fits g c =
     let h = holding c.args.self.now c.args.frames.now c.args.cells.now (g.S.Store.meant c.args.store.now) in
-    let p = err_from_is_err_and c.from-residual.result c.from-residual.ensures.1 in
-    let u = unfit_at h c.page-size-size.result c.in-err-fits.field-0.0 c.page-size-size.ensures.size c.in-err-fits.ensures in
-    record { asked = asked-misfit g.K.Key.meaning _ h u.number (altered_by c.from-residual.result) u.is (ap altered_by (p.1 ∙ ap Err p.2) ∙ u.denied_so); loans = λ f. refl }
+    let p = err_from_is_err_and c.from_residual.result c.from_residual.ensures.1 in
+    let u = unfit_at h c.page_size-size.result c.in_err-fits.field-0.0 c.page_size-size.ensures.size c.in_err-fits.ensures in
+    record { asked = asked-misfit g.K.Key.meaning _ h u.number (altered_by c.from_residual.result) u.is (ap altered_by (p.1 ∙ ap Err p.2) ∙ u.denied_so); loans = λ f. refl }
 
 pub change-requires : goal.change-requires
 change-requires g c =
-    let e = fits_at (holding c.args.self.now c.args.frames.now c.args.cells.now (g.S.Store.meant c.args.store.now)) c.page-size-size.result c.in-ok-fits.field-0 c.page-size-size.ensures.size c.in-ok-fits.ensures in
-    record { size = c.page-size-size.ensures.size; fits = e; ready = c.requires e }
+    let e = fits_at (holding c.args.self.now c.args.frames.now c.args.cells.now (g.S.Store.meant c.args.store.now)) c.page_size-size.result c.in_ok-fits.field-0 c.page_size-size.ensures.size c.in_ok-fits.ensures in
+    record { size = c.page_size-size.ensures.size; fits = e; ready = c.requires e }
 
 pub returns : goal.returns
 returns g c =
     let h = holding c.args.self.now c.args.frames.now c.args.cells.now (g.S.Store.meant c.args.store.now) in
-    let e = fits_at h c.page-size-size.result c.in-ok-fits.field-0 c.page-size-size.ensures.size c.in-ok-fits.ensures in
+    let e = fits_at h c.page_size-size.result c.in_ok-fits.field-0 c.page_size-size.ensures.size c.in_ok-fits.ensures in
     let b = c.change.ensures in
     record {
       asked = asked_fit g.K.Key.meaning _ h _ _ e (c.requires e) b.stands b.served b.number b.count;

@@ -7,7 +7,7 @@ use Rattle.pool.proofs.state.Pool.give_back.Goals as goal
 pub returns-in-Err : goal.returns-in-Err
 returns-in-Err g c =
     let h = holding c.args.self.now c.args.frames.now c.args.cells.now (g.S.Store.meant c.args.store.now) in
-    let u = unfit_at h c.page-size-size.result c.in-Err.fault c.page-size-size.ensures.size c.in-Err.ensures in
+    let u = unfit_at h c.page_size-size.result c.in-Err.fault c.page_size-size.ensures.size c.in-Err.ensures in
     record {
       asked = asked-misfit g.K.Key.meaning _ h u.number _ u.is u.denied_so;
       loans = λ f. refl;
@@ -15,16 +15,16 @@ returns-in-Err g c =
       back = refl;
     }
 
-pub take-back-requires : goal.take-back-requires
-take-back-requires g c =
-    let e = fits_at (holding c.args.self.now c.args.frames.now c.args.cells.now (g.S.Store.meant c.args.store.now)) c.page-size-size.result c.in-default.field-0 c.page-size-size.ensures.size c.in-default.ensures in
+pub take_back-requires : goal.take_back-requires
+take_back-requires g c =
+    let e = fits_at (holding c.args.self.now c.args.frames.now c.args.cells.now (g.S.Store.meant c.args.store.now)) c.page_size-size.result c.in_default.field-0 c.page_size-size.ensures.size c.in_default.ensures in
     record { fits = e; ready = c.requires e }
 
 pub returns : goal.returns
 returns g c =
     let h = holding c.args.self.now c.args.frames.now c.args.cells.now (g.S.Store.meant c.args.store.now) in
-    let e = fits_at h c.page-size-size.result c.in-default.field-0 c.page-size-size.ensures.size c.in-default.ensures in
-    let b = c.take-back.ensures in
+    let e = fits_at h c.page_size-size.result c.in_default.field-0 c.page_size-size.ensures.size c.in_default.ensures in
+    let b = c.take_back.ensures in
     record {
       asked = asked_fit g.K.Key.meaning _ h _ _ e (c.requires e) b.stands b.served b.number b.count;
       loans = loans_returned g.K.Key.meaning _ h _ _ (c.requires e) b.served;

@@ -9,7 +9,7 @@ open-ring-requires g c =
 
 pub returns : goal.returns
 returns g c = record {
-  opened = opened_so g.K.Key.meaning _ _ _ _ (length c.args.cells.now) _ c.requires c.page-size-size.ensures.law refl refl refl refl c.open-ring.ensures.stands c.open-ring.ensures.state;
+  opened = opened_so g.K.Key.meaning _ _ _ _ (length c.args.cells.now) _ c.requires c.page_size-size.ensures.law refl refl refl refl c.open-ring.ensures.stands c.open-ring.ensures.state;
   number = refl;
   count = refl;
   loans = λ f. none_carried f _ _ c.open-ring.ensures.state;
