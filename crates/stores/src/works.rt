@@ -42,7 +42,7 @@ impl WorkFile {
     /// The work file over the bytes; `check` has said yes to them.
     pub fn open(bytes: Vec<u8>, page_size: usize) -> WorkFile
         requires { file_refusal page_size (vec_len bytes) ≡ None }
-        ensures K.Key.meaning { meant_by result ≡ file_of page_size bytes.items }
+        ensures meaning { meant_by result ≡ file_of page_size bytes.items }
         ensures bytes { result.bytes ≡ bytes }
     {
         WorkFile { bytes, page_size }

@@ -26,8 +26,8 @@ row_at-row-requires g c =
     let a = along_cold c.args.cells.now c.args.table.now c.requires in
     let l = filter (λ r. cold_resident r.entry) (rows_in c.args.cells.now c.args.table.now) in
     let p = unlent {K = g.row.K.Denot} in
-    let h : c.loop-k.-k < length l = omega (arith, c.len-n.ensures, a.size) in
-    let x = a.spot p c.loop-k.-k c.loop-k.at.0 c.loop-k.invariant h in
+    let h : c.loop-k._k < length l = omega (arith, c.len-n.ensures, a.size) in
+    let x = a.spot p c.loop-k._k c.loop-k.at.0 c.loop-k.invariant h in
     record {
       stands = c.requires;
       there = subst (Has (cells_of (rows_in c.args.cells.now c.args.table.now))) x.2 (row_within c.args.cells.now c.args.table.now c.requires x.0 x.1).cells;
@@ -38,8 +38,8 @@ next-at-requires g c =
     let a = along_cold c.args.cells.now c.args.table.now c.requires in
     let l = filter (λ r. cold_resident r.entry) (rows_in c.args.cells.now c.args.table.now) in
     let p = unlent {K = g.row.K.Denot} in
-    let h : c.loop-k.-k < length l = omega (arith, c.len-n.ensures, a.size) in
-    let x = a.spot p c.loop-k.-k c.loop-k.at.0 c.loop-k.invariant h in
+    let h : c.loop-k._k < length l = omega (arith, c.len-n.ensures, a.size) in
+    let x = a.spot p c.loop-k._k c.loop-k.at.0 c.loop-k.invariant h in
     subst (λ j. j < (shape_of c.args.cells.now c.args.table.now.chains).size) x.2 (row_inside c.args.cells.now c.args.table.now c.requires x.0 x.1)
 
 pub loop-k-preserved : goal.loop-k-preserved
@@ -47,22 +47,22 @@ loop-k-preserved g c =
     let a = along_cold c.args.cells.now c.args.table.now c.requires in
     let l = filter (λ r. cold_resident r.entry) (rows_in c.args.cells.now c.args.table.now) in
     let p = unlent {K = g.row.K.Denot} in
-    let h : c.loop-k.-k < length l = omega (arith, c.len-n.ensures, a.size) in
-    let x = a.spot p c.loop-k.-k c.loop-k.at.0 c.loop-k.invariant h in
+    let h : c.loop-k._k < length l = omega (arith, c.len-n.ensures, a.size) in
+    let x = a.spot p c.loop-k._k c.loop-k.at.0 c.loop-k.invariant h in
     let r = c.row_at-row.ensures x.0 x.1 x.2 in
-    walk_passed l p c.loop-k.-k c.loop-k.at.0 c.loop-k.invariant h x.0 x.3 c.next-at.result.0
+    walk_passed l p c.loop-k._k c.loop-k.at.0 c.loop-k.invariant h x.0 x.3 c.next-at.result.0
     (ap (λ y. p y.entry) (sym r) ∙ ne_eqb _ 0 c.if-loans-eq0.false)
-    (λ m. c.next-at.ensures c.loop-k.-k (omega (arith, a.size)) (c.loop-k.invariant.here h ∙ ap (λ y. get_or y c.loop-k.-k 0) (sym a.order)) ∙ ap (λ y. get_or y (c.loop-k.-k + 1) 0) a.order)
+    (λ m. c.next-at.ensures c.loop-k._k (omega (arith, a.size)) (c.loop-k.invariant.here h ∙ ap (λ y. get_or y c.loop-k._k 0) (sym a.order)) ∙ ap (λ y. get_or y (c.loop-k._k + 1) 0) a.order)
 
 pub returns-then-loans-eq0 : goal.returns-then-loans-eq0
 returns-then-loans-eq0 g c =
     let a = along_cold c.args.cells.now c.args.table.now c.requires in
     let l = filter (λ r. cold_resident r.entry) (rows_in c.args.cells.now c.args.table.now) in
     let p = unlent {K = g.row.K.Denot} in
-    let h : c.loop-k.-k < length l = omega (arith, c.len-n.ensures, a.size) in
-    let x = a.spot p c.loop-k.-k c.loop-k.at.0 c.loop-k.invariant h in
+    let h : c.loop-k._k < length l = omega (arith, c.len-n.ensures, a.size) in
+    let x = a.spot p c.loop-k._k c.loop-k.at.0 c.loop-k.invariant h in
     let r = c.row_at-row.ensures x.0 x.1 x.2 in
-    sym (first_both cold_resident p (rows_in c.args.cells.now c.args.table.now) ∙ walk_found l p c.loop-k.-k c.loop-k.at.0 c.loop-k.invariant h x.0 x.3 (ap (λ y. p y.entry) (sym r) ∙ eq-eqb _ 0 c.if-loans-eq0.true)
+    sym (first_both cold_resident p (rows_in c.args.cells.now c.args.table.now) ∙ walk_found l p c.loop-k._k c.loop-k.at.0 c.loop-k.invariant h x.0 x.3 (ap (λ y. p y.entry) (sym r) ∙ eq-eqb _ 0 c.if-loans-eq0.true)
     ∙ ap (λ y. Some y) (sym r))
 
 pub returns : goal.returns
@@ -70,4 +70,4 @@ returns g c =
     let a = along_cold c.args.cells.now c.args.table.now c.requires in
     let l = filter (λ r. cold_resident r.entry) (rows_in c.args.cells.now c.args.table.now) in
     let p = unlent {K = g.row.K.Denot} in
-    sym (first_both cold_resident p (rows_in c.args.cells.now c.args.table.now) ∙ walk_ended l p c.loop-k.-k c.loop-k.at.0 c.loop-k.invariant (omega (arith, c.len-n.ensures, a.size)))
+    sym (first_both cold_resident p (rows_in c.args.cells.now c.args.table.now) ∙ walk_ended l p c.loop-k._k c.loop-k.at.0 c.loop-k.invariant (omega (arith, c.len-n.ensures, a.size)))
