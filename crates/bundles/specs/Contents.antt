@@ -7,7 +7,7 @@ use Rattle.std.specs.Prelude.{ℕ, ◌+◌, false, cond, List, [], ◌∷◌, So
 use Rattle.std.specs.Option.{option_map}
 use Rattle.stores.specs.Meaning.{Meaning}
 use Rattle.stores.specs.Parts.{part_of}
-use Rattle.bundles.specs.Format.{Row, rows_in, row_count, rows_part, pages_part}
+use Rattle.bundles.specs.Format.{Row, rows_in, count_of_rows, rows_part, pages_part}
 
 pub record Found : Type 0 where
   pub before : ℕ
@@ -38,4 +38,4 @@ abbrev pub sections_of : ℕ → List Row → List ℕ → Meaning
 sections_of p rows pages = record { size = p; is_open = false; pages = section_pages p rows pages }
 
 abbrev pub bundle_of : ℕ → List ℕ → Meaning
-bundle_of p bytes = sections_of p (rows_in (rows_part bytes) (row_count bytes)) (pages_part bytes)
+bundle_of p bytes = sections_of p (rows_in (rows_part bytes) (count_of_rows bytes)) (pages_part bytes)

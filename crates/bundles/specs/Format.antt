@@ -3,8 +3,8 @@
 -- first row's delivery first, and no byte after.
 --   two, four              the number of two or of four bytes that begins at a place
 --   Row, row_at, rows_in     a row; the i-th row of section one; its first n rows
---   row_count, rows_part     D; the bytes of the rows
---   page_count, pages_part   N; the bytes of the pages
+--   count_of_rows, rows_part     D; the bytes of the rows
+--   count_of_pages, pages_part   N; the bytes of the pages
 --   listed_in, good_rows, pages_in   whether rows list a delivery; whether rows are as they must be; the sum of their page counts
 --   have_rows, have_pages    the questions of the sections, without those of the rows
 --   bundle_refusal          the questions of opening a bundle, in their order
@@ -32,18 +32,18 @@ row_at part i = record { delivery = two part (7 * i); unit = slice_index part (7
 abbrev pub rows_in : List ℕ → ℕ → List Row
 rows_in part n = map (row_at part) (range_with_len 0 n)
 
-abbrev pub row_count : List ℕ → ℕ
-row_count bytes = two bytes 0
+abbrev pub count_of_rows : List ℕ → ℕ
+count_of_rows bytes = two bytes 0
 
 abbrev pub rows_part : List ℕ → List ℕ
-rows_part bytes = take (7 * row_count bytes) (drop 2 bytes)
+rows_part bytes = take (7 * count_of_rows bytes) (drop 2 bytes)
 
 abbrev pub rows_of : List ℕ → List Row
-rows_of bytes = rows_in (rows_part bytes) (row_count bytes)
+rows_of bytes = rows_in (rows_part bytes) (count_of_rows bytes)
 
 -- Are count and rows there, with at most 256 rows?
 abbrev pub have_rows : List ℕ → Bool
-have_rows bytes = nat_le 2 (length bytes) && (nat_le (row_count bytes) 256 && nat_le (2 + 7 * row_count bytes) (length bytes))
+have_rows bytes = nat_le 2 (length bytes) && (nat_le (count_of_rows bytes) 256 && nat_le (2 + 7 * count_of_rows bytes) (length bytes))
 
 -- whether one of the rows lists the delivery
 abbrev pub listed_in : ℕ → List Row → Bool
@@ -69,17 +69,17 @@ pages_in (r ∷ rows) = r.pages + pages_in rows
 
 -- SECTION TWO
 
-abbrev pub page_count : List ℕ → ℕ
-page_count bytes = four bytes (2 + 7 * row_count bytes)
+abbrev pub count_of_pages : List ℕ → ℕ
+count_of_pages bytes = four bytes (2 + 7 * count_of_rows bytes)
 
 abbrev pub pages_part : List ℕ → List ℕ
-pages_part bytes = drop (6 + 7 * row_count bytes) bytes
+pages_part bytes = drop (6 + 7 * count_of_rows bytes) bytes
 
 -- Is the count there, is it the sum of the page counts, and do exactly its pages of p bytes follow?
 abbrev pub have_pages : ℕ → List ℕ → Bool
 have_pages p bytes =
-    nat_le (6 + 7 * row_count bytes) (length bytes)
-    && (page_count bytes == pages_in (rows_of bytes) && length bytes == 6 + 7 * row_count bytes + page_count bytes * p)
+    nat_le (6 + 7 * count_of_rows bytes) (length bytes)
+    && (count_of_pages bytes == pages_in (rows_of bytes) && length bytes == 6 + 7 * count_of_rows bytes + count_of_pages bytes * p)
 
 -- OPENING
 

@@ -3,7 +3,7 @@
 ghost use Rattle.std.specs.Prelude.{◌≡◌, ◌+◌, ◌*◌, ◌≤◌, true, false, length, None, MatchResult};
 ghost use Rattle.stores.specs.Faults.{refused};
 ghost use Rattle.stores.specs.declared.faults.StoreFault.TheVariants.{SectionOne, SectionTwo};
-ghost use Rattle.bundles.specs.Format.{row_count, rows_of, pages_in, have_rows, have_pages, bundle_refusal};
+ghost use Rattle.bundles.specs.Format.{count_of_rows, rows_of, pages_in, have_rows, have_pages, bundle_refusal};
 ghost use Rattle.bundles.specs.Bundles.{Opened};
 
 use crate::bundle::Bundle;
@@ -17,7 +17,7 @@ const MOST_ROWS: usize = 256;
 // The count of rows, if count and rows are there.
 fn count_rows(bytes: &[u8]) -> Result<usize, StoreFault>
     ensures { MatchResult result
-        (λ n. (have_rows bytes.now ≡ true) × (n ≡ row_count bytes.now) × (n ≤ 256) × (2 + 7 * n ≤ length bytes.now))
+        (λ n. (have_rows bytes.now ≡ true) × (n ≡ count_of_rows bytes.now) × (n ≤ 256) × (2 + 7 * n ≤ length bytes.now))
         (λ f. (have_rows bytes.now ≡ false) × (f ≡ SectionOne)) }
 {
     if bytes.len() < 2 {
@@ -37,7 +37,7 @@ fn find_pages(
     sum: u32,
     page_size: usize,
 ) -> Result<usize, StoreFault>
-    requires { (row_count ≡ row_count bytes.now) × ((row_count ≤ 256) × ((sum ≡ pages_in (rows_of bytes.now)) × ((sum ≤ 268435456) × (page_size ≤ 4096)))) }
+    requires { (row_count ≡ count_of_rows bytes.now) × ((row_count ≤ 256) × ((sum ≡ pages_in (rows_of bytes.now)) × ((sum ≤ 268435456) × (page_size ≤ 4096)))) }
     ensures { MatchResult result
         (λ at. (have_pages page_size bytes.now ≡ true) × (at ≡ 6 + 7 * row_count) × (length bytes.now ≡ at + sum * page_size))
         (λ f. (have_pages page_size bytes.now ≡ false) × (f ≡ SectionTwo)) }

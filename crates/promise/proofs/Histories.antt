@@ -46,26 +46,26 @@ denies_asked (to_borrow k) s = go (s.store.pages k)
   where
     machine : (o : Option ℕ) → Denies (by_machine o)
     machine None = denies_none
-    machine (Some n) = denies_some serves.by-pool n
+    machine (Some n) = denies_some serves.by_pool n
 
     go : (o : Option (List ℕ)) → Denies (asked_borrow k s o)
-    go None = denies_some serves.by-store 9
+    go None = denies_some serves.by_store 9
     go (Some page) = machine (refusal s.count k s.machine)
-denies_asked (to_view l) s = denies_cond (good l s) None (Some (denied serves.by-pool 12)) denies_none (denies_some serves.by-pool 12)
+denies_asked (to_view l) s = denies_cond (good l s) None (Some (denied serves.by_pool 12)) denies_none (denies_some serves.by_pool 12)
 denies_asked (to_alter l offset new) s =
-    denies_cond (good l s) (cond s.store.is_open (cond (leb (offset + length new) (page_size s)) None (Some (denied serves.by-pool 14))) (Some (denied serves.by-store 13))) (Some (denied serves.by-pool 12))
-    (denies_cond s.store.is_open (cond (leb (offset + length new) (page_size s)) None (Some (denied serves.by-pool 14))) (Some (denied serves.by-store 13))
-    (denies_cond (leb (offset + length new) (page_size s)) None (Some (denied serves.by-pool 14)) denies_none (denies_some serves.by-pool 14))
-    (denies_some serves.by-store 13))
-    (denies_some serves.by-pool 12)
-denies_asked (to_return l) s = denies_cond (good l s) None (Some (denied serves.by-pool 12)) denies_none (denies_some serves.by-pool 12)
+    denies_cond (good l s) (cond s.store.is_open (cond (leb (offset + length new) (page_size s)) None (Some (denied serves.by_pool 14))) (Some (denied serves.by_store 13))) (Some (denied serves.by_pool 12))
+    (denies_cond s.store.is_open (cond (leb (offset + length new) (page_size s)) None (Some (denied serves.by_pool 14))) (Some (denied serves.by_store 13))
+    (denies_cond (leb (offset + length new) (page_size s)) None (Some (denied serves.by_pool 14)) denies_none (denies_some serves.by_pool 14))
+    (denies_some serves.by_store 13))
+    (denies_some serves.by_pool 12)
+denies_asked (to_return l) s = denies_cond (good l s) None (Some (denied serves.by_pool 12)) denies_none (denies_some serves.by_pool 12)
 denies_asked to_flush s = denies_none
 
 pub denies : (c : Call) (s : State) → Denies (questions c s)
 denies c s =
-    denies_cond (eqb c.bytes (s.count * page_size s)) (cond (eqb c.cells (2 * s.count)) (asked c.request s) (Some (denied serves.by-pool 4))) (Some (denied serves.by-pool 3))
-    (denies_cond (eqb c.cells (2 * s.count)) (asked c.request s) (Some (denied serves.by-pool 4)) (denies_asked c.request s) (denies_some serves.by-pool 4))
-    (denies_some serves.by-pool 3)
+    denies_cond (eqb c.bytes (s.count * page_size s)) (cond (eqb c.cells (2 * s.count)) (asked c.request s) (Some (denied serves.by_pool 4))) (Some (denied serves.by_pool 3))
+    (denies_cond (eqb c.cells (2 * s.count)) (asked c.request s) (Some (denied serves.by_pool 4)) (denies_asked c.request s) (denies_some serves.by_pool 4))
+    (denies_some serves.by_pool 3)
 
 noted_denied : (b : Book) (q : Request) (y : Layer) (n : ℕ) → noted b q (denied y n) ≡ b
 noted_denied b (to_borrow k) y n = refl
@@ -83,11 +83,11 @@ yes false o a h = none_some (Some a) a h refl
 
 pub asked_none : (c : Call) (s : State) → questions c s ≡ None → asked c.request s ≡ None
 asked_none c s h =
-    let x = yes (eqb c.bytes (s.count * page_size s)) (cond (eqb c.cells (2 * s.count)) (asked c.request s) (Some (denied serves.by-pool 4))) (denied serves.by-pool 3) h in
-    (yes (eqb c.cells (2 * s.count)) (asked c.request s) (denied serves.by-pool 4) x.1).1
+    let x = yes (eqb c.bytes (s.count * page_size s)) (cond (eqb c.cells (2 * s.count)) (asked c.request s) (Some (denied serves.by_pool 4))) (denied serves.by_pool 3) h in
+    (yes (eqb c.cells (2 * s.count)) (asked c.request s) (denied serves.by_pool 4) x.1).1
 
-pub lent_yes : (l : Loan) (s : State) → cond {A = Option Answer} (good l s) None (Some (denied serves.by-pool 12)) ≡ None → good l s ≡ true
-lent_yes l s h = (yes (good l s) None (denied serves.by-pool 12) h).0
+pub lent_yes : (l : Loan) (s : State) → cond {A = Option Answer} (good l s) None (Some (denied serves.by_pool 12)) ≡ None → good l s ≡ true
+lent_yes l s h = (yes (good l s) None (denied serves.by_pool 12) h).0
 
 -- ONE CALL
 
@@ -95,9 +95,9 @@ pub does_inv : {q : Request} {s t : State} {a : Answer} (b : Book) → Does q s 
 does_inv b (borrows {s = s} {k = k} {page = page} {f = f} {r = r} {t = t} p w) h v = (inv_borrow b s k page f r t v p w).inv
 does_inv b views h v = v
 does_inv b (alters {s = s} {l = l} {offset = offset} {new = new}) h v =
-    let x = yes (good l s) (cond s.store.is_open (cond (leb (offset + length new) (page_size s)) None (Some (denied serves.by-pool 14))) (Some (denied serves.by-store 13))) (denied serves.by-pool 12) h in
-    let y = yes s.store.is_open (cond (leb (offset + length new) (page_size s)) None (Some (denied serves.by-pool 14))) (denied serves.by-store 13) x.1 in
-    let z = yes (leb (offset + length new) (page_size s)) None (denied serves.by-pool 14) y.1 in
+    let x = yes (good l s) (cond s.store.is_open (cond (leb (offset + length new) (page_size s)) None (Some (denied serves.by_pool 14))) (Some (denied serves.by_store 13))) (denied serves.by_pool 12) h in
+    let y = yes s.store.is_open (cond (leb (offset + length new) (page_size s)) None (Some (denied serves.by_pool 14))) (denied serves.by_store 13) x.1 in
+    let z = yes (leb (offset + length new) (page_size s)) None (denied serves.by_pool 14) y.1 in
     inv_alter b s l offset new v x.0 y.0 (leb-true (offset + length new) (page_size s) z.0)
 does_inv b (returns {s = s} {l = l}) h v = inv_return b s l v (lent_yes l s h)
 does_inv b (flushes {s = s}) h v = inv_flush b s v
@@ -207,9 +207,9 @@ does_always : (q : Request) (s : State) → Facts s → asked q s ≡ None → (
 does_always (to_borrow k) s v h = go (s.store.pages k) refl h (borrow_ends s.count k s.machine v.well)
   where
     go : (o : Option (List ℕ)) → s.store.pages k ≡ o → asked_borrow k s o ≡ None → (a : machine.Answer) × (t : Machine) × Borrow s.count k s.machine a t → (a : Answer) × (t : State) × Does (to_borrow k) s a t
-    go None j i x = none_some (Some (denied serves.by-store 9)) (denied serves.by-store 9) i refl
+    go None j i x = none_some (Some (denied serves.by_store 9)) (denied serves.by_store 9) i refl
     go (Some page) j i (granted f r, t, w) = (lends (loan_of f s.number) r, borrowed r.outcome f page t s, borrows j w)
-    go (Some page) j i (refused n, t, w) = let z = why_refused s.count k w in none_some (by_machine (Some n)) (denied serves.by-pool n) (subst (λ y. by_machine y ≡ None) z i) refl
+    go (Some page) j i (refused n, t, w) = let z = why_refused s.count k w in none_some (by_machine (Some n)) (denied serves.by_pool n) (subst (λ y. by_machine y ≡ None) z i) refl
 does_always (to_view l) s v h = (shows (part s l.frame), s, views)
 does_always (to_alter l offset new) s v h = (done, altered l offset new s, alters)
 does_always (to_return l) s v h = (done, taken_back l s, returns)

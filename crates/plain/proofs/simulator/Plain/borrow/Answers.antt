@@ -8,10 +8,8 @@ borrow-requires g c = let p = c.args.self.now in record { frames = p.few; facts 
 
 pub invariant_of-self : goal.invariant_of-self
 invariant_of-self g c =
-    let p = c.args.self.now in let w = g.K.Key.meaning in (
-      p.few,
-      (
-        subst (λ n. 2 * p.frames ≤ n) (sym c.borrow.ensures.memory) p.memory,
-        (closed_facts w p.frames None c.borrow.new.self (borrow_mid p.frames (w c.args.key) c.borrow.ensures.borrowed (opened_facts w p.frames None p.state p.facts)), tt),
-      ),
-    )
+    let p = c.args.self.now in let w = g.K.Key.meaning in record {
+      few = p.few;
+      memory = subst (λ n. 2 * p.frames ≤ n) (sym c.borrow.ensures.memory) p.memory;
+      facts = closed_facts w p.frames None c.borrow.new.self (borrow_mid p.frames (w c.args.key) c.borrow.ensures.borrowed (opened_facts w p.frames None p.state p.facts));
+    }

@@ -7,14 +7,10 @@ use Rattle.plain.proofs.simulator.Plain.open.Goals as goal
 
 pub invariant_of-result : goal.invariant_of-result
 invariant_of-result g c =
-    let m = c.args.frames in let w = g.K.Key.meaning in (
-      c.if-frames-gt4096.false,
-      (
-        c.in-Ok.ensures.capacity,
-        (
-          closed_facts w m None (record { ring = c.in-Ok.ring; cold = m - 1; used = 0 })
-              (subst (λ es. Mid m None (record { ring = entries_of w es; cold = m - 1; used = 0 })) (sym c.in-Ok.ensures.items) (opened_well m c.if-frames-lt2.false).mid),
-          tt,
-        ),
-      ),
-    )
+    let m = c.args.frames in let w = g.K.Key.meaning in record {
+      few = c.if-frames-gt4096.false;
+      memory = c.in-Ok.ensures.capacity;
+      facts =
+        closed_facts w m None (record { ring = c.in-Ok.ring; cold = m - 1; used = 0 })
+            (subst (λ es. Mid m None (record { ring = entries_of w es; cold = m - 1; used = 0 })) (sym c.in-Ok.ensures.items) (opened_well m c.if-frames-lt2.false).mid);
+    }
