@@ -15,8 +15,8 @@ pub fn page_text<K: Key, S: Store<K>>(
     store: &mut S,
     key: &K,
 ) -> Result<String, AllocError>
-    ensures text { IfOk result (λ s. string_bytes s ≡ page_text (meant store.old) (K.Key.meaning key.now)) }
-    ensures store { meant store.new ≡ meant store.old }
+    ensures text { IfOk result (λ s. string_bytes s ≡ page_text (S.Store.meant store.old) (K.Key.meaning key.now)) }
+    ensures store { S.Store.meant store.new ≡ S.Store.meant store.old }
 {
     let size = store.page_size();
     let mut buffer = vec![in heap; 0u8; size]?;

@@ -15,6 +15,6 @@ returns-in-Ok c =
     IfOk-weaker c.list.result (λ s. string_bytes s ≡ listing b.page_size (listed_by b)) (λ s. Described p bytes (string_bytes s))
     (λ s e. subst (Described p bytes) (sym (e ∙ same)) (lists (sym c.in-Ok.ensures))) c.list.ensures
 
-pub returns-in_ok-text : goal.returns-in_ok-text
-returns-in_ok-text c =
+pub returns-in_ok-text-in-Err : goal.returns-in_ok-text-in-Err
+returns-in_ok-text-in-Err c =
     subst (Described c.args.page_size c.args.bytes.now) (sym c.in_ok-text.ensures.ok) (refuses c.in-Err.fault (sym c.in-Err.ensures))
