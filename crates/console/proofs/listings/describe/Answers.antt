@@ -17,4 +17,4 @@ returns-in-Ok c =
 
 pub returns-in_ok-text-in-Err : goal.returns-in_ok-text-in-Err
 returns-in_ok-text-in-Err c =
-    subst (Described c.args.page_size c.args.bytes.now) (sym c.in_ok-text.ensures.ok) (refuses c.in-Err.fault (sym c.in-Err.ensures))
+    subst (Described c.args.page_size c.args.bytes.now) (sym c.in_ok-text-in-Err.ensures.ok) (refuses c.in-Err.fault (sym c.in-Err.ensures))

@@ -16,4 +16,4 @@ returns-in-Ok g c =
     let h : held m k ≡ true = read_held m k _ c.in-Ok.ensures.answer in
     let fill = refills (vec_items old) new old.len (omega (arith, old.ok.0)) (omega (arith, old.ok.0)) in
     let page = c.as_slice.ensures.value ∙ fill ∙ c.in-Ok.ensures.filled in
-    record { text = c.in_ok-text.ensures ∙ ap hexed page ∙ sym (cond-true (held m k) (hexed (page_of m k)) (refusal_line NotHeld) h); store = c.read.ensures.store }
+    record { text = c.in_ok-text-in-Ok.ensures ∙ ap hexed page ∙ sym (cond-true (held m k) (hexed (page_of m k)) (refusal_line NotHeld) h); store = c.read.ensures.store }
