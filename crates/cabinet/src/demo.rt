@@ -1,6 +1,7 @@
 //! The demonstration: a bundle of two deliveries and a work file, from opening to refusals.
 
 use crate::machine;
+use anyhow::anyhow;
 use bundles::Bundle;
 use console::{RefusalLine, hex, page_text};
 use keys::{DeliveryKey, DeliveryNo, PageNo};
@@ -73,7 +74,7 @@ fn show(
 fn namesakes(rt: &HostRuntime, heap: Global) -> anyhow::Result<()> {
     rt.println("pages of the same number in both deliveries, each under its own key:")?;
     if let Err(fault) = Bundle::check(BUNDLE, PAGE) {
-        return Err(fault.reason().into());
+        return Err(anyhow!("{fault}"));
     }
     let mut bundle = Bundle::open(BUNDLE, PAGE);
     show(rt, heap, &mut bundle, &key(7, 0))?;
@@ -97,7 +98,7 @@ fn answer(rt: &HostRuntime, call: &str, r: Result<(), StoreFault>) -> anyhow::Re
 fn refusals(rt: &HostRuntime, heap: Global) -> anyhow::Result<()> {
     rt.println("what the bundle refuses:")?;
     if let Err(fault) = Bundle::check(BUNDLE, PAGE) {
-        return Err(fault.reason().into());
+        return Err(anyhow!("{fault}"));
     }
     let mut bundle = Bundle::open(BUNDLE, PAGE);
     show(rt, heap, &mut bundle, &key(7, 2))?;
@@ -147,7 +148,7 @@ fn work_file(rt: &HostRuntime, heap: Global) -> anyhow::Result<()> {
         WorkFile::check(bytes.as_slice(), 5),
     )?;
     if let Err(fault) = WorkFile::check(bytes.as_slice(), 4) {
-        return Err(fault.reason().into());
+        return Err(anyhow!("{fault}"));
     }
     let mut file = WorkFile::open(bytes, 4);
     show_page(rt, heap, &mut file, 1)?;

@@ -7,6 +7,7 @@ mod machine;
 
 use anyhow::anyhow;
 use std::alloc::Global;
+use std::process::ExitCode;
 use std::{env, fs};
 
 const USAGE: &str = "\
@@ -18,14 +19,13 @@ usage:
   cabinet help             prints this text
 ";
 
-fn main(rt: HostRuntime) -> anyhow::Result<()> {
+fn main(rt: HostRuntime) -> ExitCode {
     let heap = rt.alloc();
     match run(&rt, heap) {
-        Ok(()) => Ok(()),
-        Err(e) => {
-            eprintln!(rt; "cabinet: {e}")?;
-            Err(e)
-        }
+        Ok(()) => ExitCode::SUCCESS,
+        Err(e) => match eprintln!(rt; "cabinet: {e}") {
+            Ok(()) | Err(_) => ExitCode::FAILURE,
+        },
     }
 }
 
@@ -52,8 +52,7 @@ fn run(rt: &HostRuntime, heap: Global) -> anyhow::Result<()> {
         "machine" => machine::run(rt, heap, &words.as_slice()[1..]),
         other => {
             rt.print(USAGE)?;
-            let message = format!(in heap; "there is no word {other}")?;
-            Err(message.into())
+            Err(anyhow!("there is no word {other}"))
         }
     }
 }
@@ -65,14 +64,12 @@ fn bundle(rt: &HostRuntime, heap: Global, words: &[String]) -> anyhow::Result<()
         return Err(anyhow!("bundle takes a page size and a file"));
     };
     let Ok(page_size) = size.as_str().parse::<usize>() else {
-        let message = format!(in heap; "the page size {size} is not a number")?;
-        return Err(message.into());
+        return Err(anyhow!("the page size {size} is not a number"));
     };
     let bytes = match fs::read(rt, file.as_str()) {
         Ok(bytes) => bytes,
         Err(e) => {
-            let message = format!(in heap; "cannot read {file}: {e}")?;
-            return Err(message.into());
+            return Err(anyhow!("cannot read {file}: {e}"));
         }
     };
     let text = console::describe(heap, bytes.as_slice(), page_size)?;

@@ -50,8 +50,8 @@ fn borrow<K: Key + Copy, S: Store<K>>(
     hands: &mut Vec<Option<Loan>>,
     key: K,
 ) -> Result<Reply<K>, AllocError>
-    requires { Supposed K.Key.meaning (holding pool.old frames.old cells.old (meant store.old)) }
-    ensures* { λ r. ⌜ MatchResult r (λ r. Answered K.Key.meaning (to_borrow (K.Key.meaning key)) (Borrow key) (holding pool.old frames.old cells.old (meant store.old)) hands.old.items r (holding pool.new frames.new cells.new (meant store.new)) hands.new.items) (λ _. Same (holding pool.old frames.old cells.old (meant store.old)) hands.old.items (holding pool.new frames.new cells.new (meant store.new)) hands.new.items) ⌝ }
+    requires { Supposed K.Key.meaning (holding pool.old frames.old cells.old (S.Store.meant store.old)) }
+    ensures* { λ r. ⌜ MatchResult r (λ r. Answered K.Key.meaning (to_borrow (K.Key.meaning key)) (Borrow key) (holding pool.old frames.old cells.old (S.Store.meant store.old)) hands.old.items r (holding pool.new frames.new cells.new (S.Store.meant store.new)) hands.new.items) (λ _. Same (holding pool.old frames.old cells.old (S.Store.meant store.old)) hands.old.items (holding pool.new frames.new cells.new (S.Store.meant store.new)) hands.new.items) ⌝ }
 {
     hands.reserve(1)?;
     match pool.borrow(frames, cells, store, key) {
@@ -79,8 +79,8 @@ fn view<K: Key + Copy, S: Store<K>>(
     hands: &[Option<Loan>],
     hand: usize,
 ) -> Result<Reply<K>, AllocError>
-    requires { Supposed K.Key.meaning (holding pool.now frames.now cells.now (meant store.now)) }
-    ensures* { λ r. ⌜ IfOk r (λ r. CalledBy K.Key.meaning (desk.request_of (desk.ask_view hand) (hands_in hands.now)) (View hand) (holding pool.now frames.now cells.now (meant store.now)) hands.now r (holding pool.now frames.now cells.now (meant store.now)) hands.now) ⌝ }
+    requires { Supposed K.Key.meaning (holding pool.now frames.now cells.now (S.Store.meant store.now)) }
+    ensures* { λ r. ⌜ IfOk r (λ r. CalledBy K.Key.meaning (desk.request_of (desk.ask_view hand) (hands_in hands.now)) (View hand) (holding pool.now frames.now cells.now (S.Store.meant store.now)) hands.now r (holding pool.now frames.now cells.now (S.Store.meant store.now)) hands.now) ⌝ }
 {
     if hand >= hands.len() {
         return Ok(Reply::NoLoan);
@@ -108,8 +108,8 @@ fn alter<K: Key + Copy, S: Store<K>>(
     offset: usize,
     bytes: &Vec<u8>,
 ) -> Reply<K>
-    requires { Supposed K.Key.meaning (holding pool.old frames.old cells.old (meant store.now)) }
-    ensures { CalledBy K.Key.meaning (desk.request_of (desk.ask_alter hand offset bytes.now.items) (hands_in hands.now)) (Alter hand offset bytes.now) (holding pool.old frames.old cells.old (meant store.now)) hands.now result (holding pool.new frames.new cells.new (meant store.now)) hands.now }
+    requires { Supposed K.Key.meaning (holding pool.old frames.old cells.old (S.Store.meant store.now)) }
+    ensures { CalledBy K.Key.meaning (desk.request_of (desk.ask_alter hand offset bytes.now.items) (hands_in hands.now)) (Alter hand offset bytes.now) (holding pool.old frames.old cells.old (S.Store.meant store.now)) hands.now result (holding pool.new frames.new cells.new (S.Store.meant store.now)) hands.now }
 {
     if hand >= hands.len() {
         return Reply::NoLoan;
@@ -132,8 +132,8 @@ fn give_back<K: Key + Copy, S: Store<K>>(
     hands: &mut Vec<Option<Loan>>,
     hand: usize,
 ) -> Reply<K>
-    requires { Supposed K.Key.meaning (holding pool.old frames.now cells.old (meant store.now)) }
-    ensures { CalledBy K.Key.meaning (desk.request_of (desk.ask_return hand) (hands_in hands.old.items)) (Return hand) (holding pool.old frames.now cells.old (meant store.now)) hands.old.items result (holding pool.new frames.now cells.new (meant store.now)) hands.new.items }
+    requires { Supposed K.Key.meaning (holding pool.old frames.now cells.old (S.Store.meant store.now)) }
+    ensures { CalledBy K.Key.meaning (desk.request_of (desk.ask_return hand) (hands_in hands.old.items)) (Return hand) (holding pool.old frames.now cells.old (S.Store.meant store.now)) hands.old.items result (holding pool.new frames.now cells.new (S.Store.meant store.now)) hands.new.items }
 {
     match empty(hands, hand) {
         None => Reply::NoLoan,
@@ -154,8 +154,8 @@ fn flush<K: Key + Copy, S: Store<K>>(
     cells: &mut [Cell<Entry<K>>],
     store: &mut S,
 ) -> Reply<K>
-    requires { Supposed K.Key.meaning (holding pool.old frames.now cells.old (meant store.old)) }
-    ensures { (hands : List (Option Loan)) → Answered K.Key.meaning to_flush Flush (holding pool.old frames.now cells.old (meant store.old)) hands result (holding pool.new frames.now cells.new (meant store.new)) hands }
+    requires { Supposed K.Key.meaning (holding pool.old frames.now cells.old (S.Store.meant store.old)) }
+    ensures { (hands : List (Option Loan)) → Answered K.Key.meaning to_flush Flush (holding pool.old frames.now cells.old (S.Store.meant store.old)) hands result (holding pool.new frames.now cells.new (S.Store.meant store.new)) hands }
 {
     match pool.flush(frames, cells, store) {
         Ok(written) => Reply::Wrote(written),
@@ -173,8 +173,8 @@ pub(crate) fn call<K: Key + Copy, S: Store<K>>(
     hands: &mut Vec<Option<Loan>>,
     ask: &Ask<K>,
 ) -> Result<Reply<K>, AllocError>
-    requires { Supposed K.Key.meaning (holding pool.old frames.old cells.old (meant store.old)) }
-    ensures* { λ r. ⌜ MatchResult r (λ r. Called K.Key.meaning ask.now (holding pool.old frames.old cells.old (meant store.old)) hands.old.items r (holding pool.new frames.new cells.new (meant store.new)) hands.new.items) (λ _. Same (holding pool.old frames.old cells.old (meant store.old)) hands.old.items (holding pool.new frames.new cells.new (meant store.new)) hands.new.items) ⌝ }
+    requires { Supposed K.Key.meaning (holding pool.old frames.old cells.old (S.Store.meant store.old)) }
+    ensures* { λ r. ⌜ MatchResult r (λ r. Called K.Key.meaning ask.now (holding pool.old frames.old cells.old (S.Store.meant store.old)) hands.old.items r (holding pool.new frames.new cells.new (S.Store.meant store.new)) hands.new.items) (λ _. Same (holding pool.old frames.old cells.old (S.Store.meant store.old)) hands.old.items (holding pool.new frames.new cells.new (S.Store.meant store.new)) hands.new.items) ⌝ }
 {
     match ask {
         Ask::Borrow(key) => borrow(pool, frames, cells, store, hands, *key),

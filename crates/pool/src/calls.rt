@@ -38,8 +38,8 @@ impl Pool {
         store: &mut S,
         key: K,
     ) -> Result<(Loan, Report<K>), PoolFault>
-        requires { Supposed K.Key.meaning (holding self.old frames.old cells.old (meant store.old)) }
-        ensures asked { Asked K.Key.meaning (to_borrow (K.Key.meaning key)) (holding self.old frames.old cells.old (meant store.old)) (lent_by K.Key.meaning result) (holding self.new frames.new cells.new (meant store.new)) }
+        requires { Supposed K.Key.meaning (holding self.old frames.old cells.old (S.Store.meant store.old)) }
+        ensures asked { Asked K.Key.meaning (to_borrow (K.Key.meaning key)) (holding self.old frames.old cells.old (S.Store.meant store.old)) (lent_by K.Key.meaning result) (holding self.new frames.new cells.new (S.Store.meant store.new)) }
         ensures loans { (f : ℕ) → carried K.Key.meaning self.new cells.new f ≡ lent_at result f (carried K.Key.meaning self.old cells.old f) }
         ensures own { Own self.old result }
     {
@@ -56,8 +56,8 @@ impl Pool {
         store: &S,
         loan: &Loan,
     ) -> Result<&'a [u8], PoolFault>
-        requires { Supposed K.Key.meaning (holding self.now frames.now cells.now (meant store.now)) }
-        ensures { Asked K.Key.meaning (to_view (loan_in loan.now)) (holding self.now frames.now cells.now (meant store.now)) (shown_by result) (holding self.now frames.now cells.now (meant store.now)) }
+        requires { Supposed K.Key.meaning (holding self.now frames.now cells.now (S.Store.meant store.now)) }
+        ensures { Asked K.Key.meaning (to_view (loan_in loan.now)) (holding self.now frames.now cells.now (S.Store.meant store.now)) (shown_by result) (holding self.now frames.now cells.now (S.Store.meant store.now)) }
     {
         let size = store.page_size();
         self.fits(size, frames, cells)?;
@@ -74,8 +74,8 @@ impl Pool {
         offset: usize,
         bytes: &[u8],
     ) -> Result<(), PoolFault>
-        requires { Supposed K.Key.meaning (holding self.old frames.old cells.old (meant store.now)) }
-        ensures asked { Asked K.Key.meaning (to_alter (loan_in loan.now) offset bytes.now) (holding self.old frames.old cells.old (meant store.now)) (altered_by result) (holding self.new frames.new cells.new (meant store.now)) }
+        requires { Supposed K.Key.meaning (holding self.old frames.old cells.old (S.Store.meant store.now)) }
+        ensures asked { Asked K.Key.meaning (to_alter (loan_in loan.now) offset bytes.now) (holding self.old frames.old cells.old (S.Store.meant store.now)) (altered_by result) (holding self.new frames.new cells.new (S.Store.meant store.now)) }
         ensures loans { (f : ℕ) → carried K.Key.meaning self.new cells.new f ≡ carried K.Key.meaning self.old cells.old f }
     {
         let size = store.page_size();
@@ -91,10 +91,10 @@ impl Pool {
         store: &S,
         loan: Loan,
     ) -> Result<(), (PoolFault, Loan)>
-        requires { Supposed K.Key.meaning (holding self.old frames.now cells.old (meant store.now)) }
-        ensures asked { Asked K.Key.meaning (to_return (loan_in loan)) (holding self.old frames.now cells.old (meant store.now)) (returned_by result) (holding self.new frames.now cells.new (meant store.now)) }
+        requires { Supposed K.Key.meaning (holding self.old frames.now cells.old (S.Store.meant store.now)) }
+        ensures asked { Asked K.Key.meaning (to_return (loan_in loan)) (holding self.old frames.now cells.old (S.Store.meant store.now)) (returned_by result) (holding self.new frames.now cells.new (S.Store.meant store.now)) }
         ensures loans { (f : ℕ) → carried K.Key.meaning self.new cells.new f ≡ returned_at loan result f (carried K.Key.meaning self.old cells.old f) }
-        ensures granted { sizes_of (holding self.old frames.now cells.old (meant store.now)) ≡ None → loan.pool ≡ self.old.number → 1 ≤ carried K.Key.meaning self.old cells.old loan.frame.0 → is_ok result ≡ true }
+        ensures granted { sizes_of (holding self.old frames.now cells.old (S.Store.meant store.now)) ≡ None → loan.pool ≡ self.old.number → 1 ≤ carried K.Key.meaning self.old cells.old loan.frame.0 → is_ok result ≡ true }
         ensures back { IfErr result (λ p. p.1 ≡ loan) }
     {
         let size = store.page_size();
@@ -111,8 +111,8 @@ impl Pool {
         cells: &mut [Cell<Entry<K>>],
         store: &mut S,
     ) -> Result<u32, PoolFault>
-        requires { Supposed K.Key.meaning (holding self.old frames.now cells.old (meant store.old)) }
-        ensures asked { Asked K.Key.meaning to_flush (holding self.old frames.now cells.old (meant store.old)) (flushed_by result) (holding self.new frames.now cells.new (meant store.new)) }
+        requires { Supposed K.Key.meaning (holding self.old frames.now cells.old (S.Store.meant store.old)) }
+        ensures asked { Asked K.Key.meaning to_flush (holding self.old frames.now cells.old (S.Store.meant store.old)) (flushed_by result) (holding self.new frames.now cells.new (S.Store.meant store.new)) }
         ensures loans { (f : ℕ) → carried K.Key.meaning self.new cells.new f ≡ carried K.Key.meaning self.old cells.old f }
     {
         let size = store.page_size();

@@ -28,14 +28,14 @@ fn flush_frame<K: Key + Copy, S: Store<K>>(
     size: usize,
     frame: FrameNo,
 ) -> u32
-    requires size { size ≡ (meant store.old).size }
+    requires size { size ≡ (S.Store.meant store.old).size }
     requires part { frame.0 * size + size ≤ length frames.now }
     requires stands { Stands cells.old ring.old.table }
-    requires takes { TakesFrom (rules.occupant frame.0 (machine_of K.Key.meaning cells.old ring.old)) (meant store.old) }
+    requires takes { TakesFrom (rules.occupant frame.0 (machine_of K.Key.meaning cells.old ring.old)) (S.Store.meant store.old) }
     ensures stands { Stands cells.new ring.new.table }
     ensures written { result ≡ one (rules.altered_at (rules.occupant frame.0 (machine_of K.Key.meaning cells.old ring.old))) }
     ensures marks { machine_of K.Key.meaning cells.new ring.new ≡ (if rules.altered_at (rules.occupant frame.0 (machine_of K.Key.meaning cells.old ring.old)) then rules.mark_page frame.0 false (machine_of K.Key.meaning cells.old ring.old) else machine_of K.Key.meaning cells.old ring.old) }
-    ensures store { meant store.new ≡ sent_out (part_of size frames.now frame.0) (rules.occupant frame.0 (machine_of K.Key.meaning cells.old ring.old)) (meant store.old) }
+    ensures store { S.Store.meant store.new ≡ sent_out (part_of size frames.now frame.0) (rules.occupant frame.0 (machine_of K.Key.meaning cells.old ring.old)) (S.Store.meant store.old) }
 {
     let Some(entry) = ring::occupant(cells, ring, frame) else {
         return 0;
@@ -60,11 +60,11 @@ pub(crate) fn write_all<K: Key + Copy, S: Store<K>>(
     store: &mut S,
     size: usize,
 ) -> u32
-    requires size { size ≡ (meant store.old).size }
-    requires fits { sizes_of (holding pool.old frames.now cells.old (meant store.old)) ≡ None }
-    requires ready { Ready K.Key.meaning (holding pool.old frames.now cells.old (meant store.old)) }
+    requires size { size ≡ (S.Store.meant store.old).size }
+    requires fits { sizes_of (holding pool.old frames.now cells.old (S.Store.meant store.old)) ≡ None }
+    requires ready { Ready K.Key.meaning (holding pool.old frames.now cells.old (S.Store.meant store.old)) }
     ensures stands { Stands cells.new pool.new.ring.table }
-    ensures served { Serves (call_of to_flush frames.now cells.old) (state K.Key.meaning (holding pool.old frames.now cells.old (meant store.old))) (wrote result) (state K.Key.meaning (holding pool.new frames.now cells.new (meant store.new))) }
+    ensures served { Serves (call_of to_flush frames.now cells.old) (state K.Key.meaning (holding pool.old frames.now cells.old (S.Store.meant store.old))) (wrote result) (state K.Key.meaning (holding pool.new frames.now cells.new (S.Store.meant store.new))) }
     ensures number { pool.new.number ≡ pool.old.number }
     ensures count { pool.new.frames ≡ pool.old.frames }
 {

@@ -22,7 +22,7 @@ use stores::{Store, StoreFault};
 
 // 9: does the store hold the key?
 fn held_by<K: Key, S: Store<K>>(store: &S, key: &K) -> Result<(), StoreFault>
-    ensures { stores.refused result ≡ (if held (meant store.now) (K.Key.meaning key.now) then None else Some 9) }
+    ensures { stores.refused result ≡ (if held (S.Store.meant store.now) (K.Key.meaning key.now) then None else Some 9) }
 {
     if store.holds(key) {
         Ok(())
@@ -33,7 +33,7 @@ fn held_by<K: Key, S: Store<K>>(store: &S, key: &K) -> Result<(), StoreFault>
 
 // 13: is the store open?
 fn unsealed<K: Key, S: Store<K>>(store: &S) -> Result<(), StoreFault>
-    ensures { stores.refused result ≡ (if (meant store.now).is_open then None else Some 13) }
+    ensures { stores.refused result ≡ (if (S.Store.meant store.now).is_open then None else Some 13) }
 {
     if store.is_open() {
         Ok(())
@@ -85,11 +85,11 @@ pub(crate) fn lend<K: Key + Copy, S: Store<K>>(
     size: usize,
     key: K,
 ) -> Result<(Loan, Report<K>), PoolFault>
-    requires size { size ≡ (meant store.old).size }
-    requires fits { sizes_of (holding pool.old frames.old cells.old (meant store.old)) ≡ None }
-    requires ready { Ready K.Key.meaning (holding pool.old frames.old cells.old (meant store.old)) }
+    requires size { size ≡ (S.Store.meant store.old).size }
+    requires fits { sizes_of (holding pool.old frames.old cells.old (S.Store.meant store.old)) ≡ None }
+    requires ready { Ready K.Key.meaning (holding pool.old frames.old cells.old (S.Store.meant store.old)) }
     ensures stands { Stands cells.new pool.new.ring.table }
-    ensures served { Serves (call_of (to_borrow (K.Key.meaning key)) frames.old cells.old) (state K.Key.meaning (holding pool.old frames.old cells.old (meant store.old))) (lent_by K.Key.meaning result) (state K.Key.meaning (holding pool.new frames.new cells.new (meant store.new))) }
+    ensures served { Serves (call_of (to_borrow (K.Key.meaning key)) frames.old cells.old) (state K.Key.meaning (holding pool.old frames.old cells.old (S.Store.meant store.old))) (lent_by K.Key.meaning result) (state K.Key.meaning (holding pool.new frames.new cells.new (S.Store.meant store.new))) }
     ensures own { Own pool.old result }
     ensures number { pool.new.number ≡ pool.old.number }
     ensures count { pool.new.frames ≡ pool.old.frames }
@@ -114,10 +114,10 @@ pub(crate) fn look<'a, K: Key + Copy, S: Store<K>>(
     size: usize,
     loan: &Loan,
 ) -> Result<&'a [u8], PoolFault>
-    requires size { size ≡ (meant store.now).size }
-    requires fits { sizes_of (holding pool.now frames.now cells.now (meant store.now)) ≡ None }
-    requires ready { Ready K.Key.meaning (holding pool.now frames.now cells.now (meant store.now)) }
-    ensures { Serves (call_of (to_view (loan_in loan.now)) frames.now cells.now) (state K.Key.meaning (holding pool.now frames.now cells.now (meant store.now))) (shown_by result) (state K.Key.meaning (holding pool.now frames.now cells.now (meant store.now))) }
+    requires size { size ≡ (S.Store.meant store.now).size }
+    requires fits { sizes_of (holding pool.now frames.now cells.now (S.Store.meant store.now)) ≡ None }
+    requires ready { Ready K.Key.meaning (holding pool.now frames.now cells.now (S.Store.meant store.now)) }
+    ensures { Serves (call_of (to_view (loan_in loan.now)) frames.now cells.now) (state K.Key.meaning (holding pool.now frames.now cells.now (S.Store.meant store.now))) (shown_by result) (state K.Key.meaning (holding pool.now frames.now cells.now (S.Store.meant store.now))) }
 {
     if !is_good(pool, cells, loan) {
         return Err(PoolFault::NotOnLoan);
@@ -146,11 +146,11 @@ pub(crate) fn change<K: Key + Copy, S: Store<K>>(
     offset: usize,
     bytes: &[u8],
 ) -> Result<(), PoolFault>
-    requires size { size ≡ (meant store.now).size }
-    requires fits { sizes_of (holding pool.old frames.old cells.old (meant store.now)) ≡ None }
-    requires ready { Ready K.Key.meaning (holding pool.old frames.old cells.old (meant store.now)) }
+    requires size { size ≡ (S.Store.meant store.now).size }
+    requires fits { sizes_of (holding pool.old frames.old cells.old (S.Store.meant store.now)) ≡ None }
+    requires ready { Ready K.Key.meaning (holding pool.old frames.old cells.old (S.Store.meant store.now)) }
     ensures stands { Stands cells.new pool.new.ring.table }
-    ensures served { Serves (call_of (to_alter (loan_in loan.now) offset bytes.now) frames.old cells.old) (state K.Key.meaning (holding pool.old frames.old cells.old (meant store.now))) (altered_by result) (state K.Key.meaning (holding pool.new frames.new cells.new (meant store.now))) }
+    ensures served { Serves (call_of (to_alter (loan_in loan.now) offset bytes.now) frames.old cells.old) (state K.Key.meaning (holding pool.old frames.old cells.old (S.Store.meant store.now))) (altered_by result) (state K.Key.meaning (holding pool.new frames.new cells.new (S.Store.meant store.now))) }
     ensures number { pool.new.number ≡ pool.old.number }
     ensures count { pool.new.frames ≡ pool.old.frames }
 {
@@ -174,10 +174,10 @@ pub(crate) fn take_back<K: Key + Copy, S: Store<K>>(
     store: &S,
     loan: Loan,
 ) -> Result<(), (PoolFault, Loan)>
-    requires fits { sizes_of (holding pool.old frames.now cells.old (meant store.now)) ≡ None }
-    requires ready { Ready K.Key.meaning (holding pool.old frames.now cells.old (meant store.now)) }
+    requires fits { sizes_of (holding pool.old frames.now cells.old (S.Store.meant store.now)) ≡ None }
+    requires ready { Ready K.Key.meaning (holding pool.old frames.now cells.old (S.Store.meant store.now)) }
     ensures stands { Stands cells.new pool.new.ring.table }
-    ensures served { Serves (call_of (to_return (loan_in loan)) frames.now cells.old) (state K.Key.meaning (holding pool.old frames.now cells.old (meant store.now))) (returned_by result) (state K.Key.meaning (holding pool.new frames.now cells.new (meant store.now))) }
+    ensures served { Serves (call_of (to_return (loan_in loan)) frames.now cells.old) (state K.Key.meaning (holding pool.old frames.now cells.old (S.Store.meant store.now))) (returned_by result) (state K.Key.meaning (holding pool.new frames.now cells.new (S.Store.meant store.now))) }
     ensures back { IfErr result (λ p. p.1 ≡ loan) }
     ensures number { pool.new.number ≡ pool.old.number }
     ensures count { pool.new.frames ≡ pool.old.frames }

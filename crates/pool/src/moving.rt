@@ -17,10 +17,10 @@ pub(crate) fn write_out<K: Key + Copy, S: Store<K>>(
     frame: FrameNo,
     victim: Option<Victim<K>>,
 )
-    requires size { size ≡ (meant store.old).size }
+    requires size { size ≡ (S.Store.meant store.old).size }
     requires part { frame.0 * size + size ≤ length frames.now }
-    requires takes { Takes K.Key.meaning victim (meant store.old) }
-    ensures { meant store.new ≡ sent_by K.Key.meaning victim (part_of size frames.now frame.0) (meant store.old) }
+    requires takes { Takes K.Key.meaning victim (S.Store.meant store.old) }
+    ensures { S.Store.meant store.new ≡ sent_by K.Key.meaning victim (part_of size frames.now frame.0) (S.Store.meant store.old) }
 {
     let Some(gone) = victim else {
         return;
@@ -43,11 +43,11 @@ fn read_in<K: Key, S: Store<K>>(
     frame: FrameNo,
     key: &K,
 )
-    requires size { size ≡ (meant store.old).size }
+    requires size { size ≡ (S.Store.meant store.old).size }
     requires part { frame.0 * size + size ≤ length frames.old }
-    requires holds { held (meant store.old) (K.Key.meaning key.now) ≡ true }
-    ensures filled { frames.new ≡ laid (frame.0 * size) (page_of (meant store.old) (K.Key.meaning key.now)) frames.old }
-    ensures store { meant store.new ≡ meant store.old }
+    requires holds { held (S.Store.meant store.old) (K.Key.meaning key.now) ≡ true }
+    ensures filled { frames.new ≡ laid (frame.0 * size) (page_of (S.Store.meant store.old) (K.Key.meaning key.now)) frames.old }
+    ensures store { S.Store.meant store.new ≡ S.Store.meant store.old }
 {
     let at = frame.0 as usize * size;
     match store.read(key, &mut frames[at..at + size]) {
@@ -65,12 +65,12 @@ fn exchange<K: Key + Copy, S: Store<K>>(
     victim: Option<Victim<K>>,
     key: &K,
 )
-    requires size { size ≡ (meant store.old).size }
+    requires size { size ≡ (S.Store.meant store.old).size }
     requires part { frame.0 * size + size ≤ length frames.old }
-    requires takes { Takes K.Key.meaning victim (meant store.old) }
-    requires holds { held (sent_by K.Key.meaning victim (part_of size frames.old frame.0) (meant store.old)) (K.Key.meaning key.now) ≡ true }
-    ensures filled { frames.new ≡ laid (frame.0 * size) (page_of (sent_by K.Key.meaning victim (part_of size frames.old frame.0) (meant store.old)) (K.Key.meaning key.now)) frames.old }
-    ensures store { meant store.new ≡ sent_by K.Key.meaning victim (part_of size frames.old frame.0) (meant store.old) }
+    requires takes { Takes K.Key.meaning victim (S.Store.meant store.old) }
+    requires holds { held (sent_by K.Key.meaning victim (part_of size frames.old frame.0) (S.Store.meant store.old)) (K.Key.meaning key.now) ≡ true }
+    ensures filled { frames.new ≡ laid (frame.0 * size) (page_of (sent_by K.Key.meaning victim (part_of size frames.old frame.0) (S.Store.meant store.old)) (K.Key.meaning key.now)) frames.old }
+    ensures store { S.Store.meant store.new ≡ sent_by K.Key.meaning victim (part_of size frames.old frame.0) (S.Store.meant store.old) }
 {
     write_out(frames, store, size, frame, victim);
     read_in(frames, store, size, frame, key);
@@ -84,12 +84,12 @@ pub(crate) fn settle<K: Key + Copy, S: Store<K>>(
     granted: Granted<K>,
     key: &K,
 )
-    requires size { size ≡ (meant store.old).size }
+    requires size { size ≡ (S.Store.meant store.old).size }
     requires part { granted.frame.0 * size + size ≤ length frames.old }
-    requires takes { TakesAfter K.Key.meaning granted.report.outcome granted.report.victim (meant store.old) }
-    requires holds { held (sent_after K.Key.meaning granted.report.outcome granted.report.victim (part_of size frames.old granted.frame.0) (meant store.old)) (K.Key.meaning key.now) ≡ true }
-    ensures filled { frames.new ≡ filled_after granted.report.outcome (granted.frame.0 * size) (page_of (sent_after K.Key.meaning granted.report.outcome granted.report.victim (part_of size frames.old granted.frame.0) (meant store.old)) (K.Key.meaning key.now)) frames.old }
-    ensures store { meant store.new ≡ sent_after K.Key.meaning granted.report.outcome granted.report.victim (part_of size frames.old granted.frame.0) (meant store.old) }
+    requires takes { TakesAfter K.Key.meaning granted.report.outcome granted.report.victim (S.Store.meant store.old) }
+    requires holds { held (sent_after K.Key.meaning granted.report.outcome granted.report.victim (part_of size frames.old granted.frame.0) (S.Store.meant store.old)) (K.Key.meaning key.now) ≡ true }
+    ensures filled { frames.new ≡ filled_after granted.report.outcome (granted.frame.0 * size) (page_of (sent_after K.Key.meaning granted.report.outcome granted.report.victim (part_of size frames.old granted.frame.0) (S.Store.meant store.old)) (K.Key.meaning key.now)) frames.old }
+    ensures store { S.Store.meant store.new ≡ sent_after K.Key.meaning granted.report.outcome granted.report.victim (part_of size frames.old granted.frame.0) (S.Store.meant store.old) }
 {
     let frame = granted.frame;
     let outcome = granted.report.outcome;

@@ -27,7 +27,7 @@ impl Pool {
         frames: &[u8],
         cells: &[Cell<Entry<K>>],
     ) -> Result<(), PoolFault>
-        ensures { refused result ≡ open_refusal (meant store.now).size m (length frames.now) (length cells.now) }
+        ensures { refused result ≡ open_refusal (S.Store.meant store.now).size m (length frames.now) (length cells.now) }
     {
         let size = store.page_size();
         if size < 1 || size > LARGEST_PAGE {
@@ -53,8 +53,8 @@ impl Pool {
         frames: &[u8],
         cells: &mut [Cell<Entry<K>>],
     ) -> Pool
-        requires { open_refusal (meant store.now).size m (length frames.now) (length cells.old) ≡ None }
-        ensures opened { Opened K.Key.meaning number.0 m frames.now (meant store.now) (holding result frames.now cells.new (meant store.now)) }
+        requires { open_refusal (S.Store.meant store.now).size m (length frames.now) (length cells.old) ≡ None }
+        ensures opened { Opened K.Key.meaning number.0 m frames.now (S.Store.meant store.now) (holding result frames.now cells.new (S.Store.meant store.now)) }
         ensures number { result.number ≡ number }
         ensures count { result.frames ≡ m }
         ensures loans { (f : ℕ) → carried K.Key.meaning result cells.new f ≡ 0 }
