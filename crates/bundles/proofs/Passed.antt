@@ -1,10 +1,10 @@
 -- The loops over rows: each turn passes one row, and what is asked of all rows is asked of those that are left.
-use Rattle.std.proofs.Common.{◌≡◌, ℕ, suc, ◌+◌, ◌-◌, ◌*◌, ◌^◌, ◌<◌, ◌≤◌, Bool, true, false, cond, not, ◌&&◌, ◌||◌, eqb, leb, List, [], ◌∷◌, ◌++◌, map, length, Some, None, sym, refl, ap, ◌∙◌, arith}
+use Rattle.std.proofs.Common.{◌≡◌, ℕ, suc, ◌+◌, ◌-◌, ◌*◌, ◌^◌, ◌<◌, ◌≤◌, Bool, true, false, not, ◌&&◌, ◌||◌, eqb, leb, List, [], ◌∷◌, ◌++◌, map, Some, None, sym, refl, ap, ◌∙◌, arith}
 use Rattle.std.specs.List.{range_with_len}
 use Rattle.std.proofs.lemmas.List.FromFn.{map-range_with_len_more}
 use Rattle.std.proofs.lemmas.Bool.{and_left, and_parts, leb-true, eq-eqb, ne_eqb, or_left, cond-true, cond-false}
 use Rattle.bundles.specs.Format.{Row, row_at, rows_in, listed_in, good_row, good_after, good_rows, pages_in}
-use Rattle.bundles.specs.Contents.{Found, found}
+use Rattle.bundles.specs.Contents.{found}
 
 -- the rows from i on, below n
 abbrev pub rows_from : List ℕ → ℕ → ℕ → List Row

@@ -1,8 +1,8 @@
 -- Another chain is as it was.
-use Rattle.std.proofs.Common.{◌≡◌, ℕ, zero, suc, ◌<◌, ◌≢◌, List, [], ◌∷◌, length, Option, sym, refl, ap, ◌∙◌, subst, arith}
+use Rattle.std.proofs.Common.{◌≡◌, ℕ, zero, suc, ◌<◌, ◌≢◌, List, [], ◌∷◌, length, Option, refl, ap, ◌∙◌, arith}
 use Rattle.std.proofs.ByRecursion.{All-weaker}
 use Rattle.chains.specs.Cells.{next_of, prev_of, Framed, Stored, Slotted}
-use Rattle.chains.specs.Orders.{From, walk, Chained, order_of, Sound}
+use Rattle.chains.specs.Orders.{From, walk, order_of, Sound}
 use Rattle.chains.specs.declared.cell.Cell.{Cell}
 use Rattle.chains.specs.declared.cell.Chain.{Chain}
 use Rattle.chains.specs.declared.link.Ends.{Ends}

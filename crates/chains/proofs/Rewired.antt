@@ -1,5 +1,5 @@
 -- One cell of the slice is written: what that does to `next_of`, `prev_of`, `entry_of` and `slot_of`.
-use Rattle.std.proofs.Common.{◌≡◌, ℕ, ◌<◌, ◌≢◌, List, length, get_or, set, sym, ap, ◌∙◌, inl, inr}
+use Rattle.std.proofs.Common.{◌≡◌, ℕ, ◌<◌, ◌≢◌, List, length, get_or, set, ap, ◌∙◌, inl, inr}
 use Rattle.std.proofs.lemmas.List.{get_or-set_same, get_or-set_other, get_or_default, length-set}
 use Rattle.std.proofs.lemmas.Bool.{cases_eq}
 use Rattle.chains.specs.Cells.{next_of, prev_of, entry_of, slot_of, Put, Framed, Stored, Slotted, links_at, vacant}

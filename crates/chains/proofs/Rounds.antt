@@ -1,10 +1,10 @@
 -- Lists of cells that two functions lead through, forth and back: one more at the end, and one taken out.
-use Rattle.std.proofs.Common.{◌≡◌, ℕ, suc, cond, eqb, ◌≢◌, List, [], ◌∷◌, ◌++◌, length, sym, refl, ap, ◌∙◌}
+use Rattle.std.proofs.Common.{◌≡◌, ℕ, suc, eqb, ◌≢◌, List, [], ◌∷◌, ◌++◌, length, sym, refl, ap, ◌∙◌}
 use Rattle.std.specs.List.{AllByRecursion as All}
 use Rattle.std.proofs.lemmas.List.{append-nil}
 use Rattle.std.proofs.ByRecursion.{All-push}
 use Rattle.std.proofs.lemmas.Bool.{ne_eqb, eq-eqb, cond-true, cond-false}
-use Rattle.chains.specs.Orders.{From, last_of, first_of, Apart, without, walk}
+use Rattle.chains.specs.Orders.{From, last_of, Apart, without, walk}
 
 module _ (n p : ℕ → ℕ) where
   pub walk_is : (x : ℕ) (ys : List ℕ) → From n p x ys → walk n x (suc (length ys)) ≡ x ∷ ys

@@ -5,7 +5,7 @@ use Rattle.std.specs.List.{ContainsAt as Has, AllByRecursion as All}
 use Rattle.std.proofs.lemmas.List.{append-nil, length_push, length-append}
 use Rattle.std.proofs.ByRecursion.{All-push, All-weaker, all-has}
 use Rattle.std.proofs.lemmas.Bool.{ne_eqb, eq-eqb, cond-true, cond-false}
-use Rattle.chains.specs.Cells.{next_of, prev_of, Put, Framed}
+use Rattle.chains.specs.Cells.{next_of, prev_of, Put}
 use Rattle.chains.specs.Orders.{From, last_of, first_of, Apart, Misses, without, walk, Chained, order_of, Sound}
 use Rattle.keys.specs.declared.CellNo.{CellNo}
 use Rattle.chains.specs.declared.cell.Links.{Links}

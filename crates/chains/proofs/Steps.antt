@@ -1,10 +1,10 @@
 -- How a caller goes through a chain, and what it knows of the ends.
-use Rattle.std.proofs.Common.{◌≡◌, ℕ, zero, suc, ◌+◌, ◌<◌, ◌≤◌, ◌≢◌, List, [], ◌∷◌, ◌++◌, length, get_or, sym, refl, ap, ◌∙◌, subst, add-one, arith}
-use Rattle.std.specs.List.{ContainsAt as Has, AllByRecursion as All}
+use Rattle.std.proofs.Common.{◌≡◌, ℕ, zero, suc, ◌+◌, ◌<◌, List, [], ◌∷◌, ◌++◌, length, get_or, refl, ap, subst, add-one, arith}
+use Rattle.std.specs.List.{ContainsAt as Has}
 use Rattle.std.proofs.ByRecursion.{All-get_or, has_get_or, All-push}
 use Rattle.std.proofs.lemmas.List.{length_push}
-use Rattle.chains.specs.Cells.{next_of, prev_of}
-use Rattle.chains.specs.Orders.{From, walk, last_of, first_of, Misses, Chained, order_of, Sound}
+use Rattle.chains.specs.Cells.{next_of}
+use Rattle.chains.specs.Orders.{walk, Misses, order_of, Sound}
 use Rattle.chains.specs.declared.cell.Cell.{Cell}
 use Rattle.chains.specs.declared.link.Ends.{Ends}
 use Rattle.chains.specs.declared.cell.Chain.{Chain}

@@ -5,7 +5,7 @@
 --   Put                a function that differs from another at one place
 --   Framed             only the links of one chain differ
 --   Stored, Slotted    only one entry differs; only one slot does
-use Rattle.std.specs.Prelude.{◌≡◌, ℕ, ◌≢◌, List, [], ◌∷◌, length, get_or, None, Option, slice_index_or}
+use Rattle.std.specs.Prelude.{◌≡◌, ℕ, ◌≢◌, List, [], length, get_or, None, Option, slice_index_or}
 use Rattle.chains.specs.declared.cell.Links.{Links}
 use Rattle.chains.specs.declared.cell.Cell.{Cell}
 use Rattle.chains.specs.declared.cell.Chain.{Chain}

@@ -4,7 +4,7 @@
 --   without            the list without a number
 --   Chained            that links go round a list of cells
 --   order_of, Sound     the cells of a chain, from tail to head; that its links go round them
-use Rattle.std.specs.Prelude.{◌≡◌, ℕ, zero, suc, ◌<◌, Bool, cond, ◌≢◌, List, [], ◌∷◌, length, ◌==◌}
+use Rattle.std.specs.Prelude.{◌≡◌, ℕ, zero, suc, ◌<◌, cond, ◌≢◌, List, [], ◌∷◌, length, ◌==◌}
 use Rattle.std.specs.List.{AllByRecursion as All}
 use Rattle.chains.specs.Cells.{next_of, prev_of}
 use Rattle.chains.specs.declared.cell.Cell.{Cell}

@@ -4,7 +4,7 @@
 --   pushed, unlinked, turned, followed, stayed   what becomes of one chain
 --   stored, slotted    what becomes of one entry, and of one slot
 --   head_of, name_of     the first of a list, if there is one; the number of a cell, if there is one
-use Rattle.std.specs.Prelude.{◌≡◌, ℕ, Bool, cond, List, [], ◌∷◌, ◌++◌, length, Some, None, Option, ◌==◌, slice_index_or}
+use Rattle.std.specs.Prelude.{ℕ, Bool, cond, List, [], ◌∷◌, ◌++◌, length, Some, None, Option, ◌==◌, slice_index_or}
 use Rattle.chains.specs.Cells.{place, entry_of, slot_of}
 use Rattle.chains.specs.Orders.{order_of, Sound, without}
 use Rattle.chains.specs.declared.cell.Cell.{Cell}

@@ -10,7 +10,7 @@ use Rattle.machine.proofs.Work.{work, hot_work, head_work}
 use Rattle.machine.proofs.Runs.{hot_some, test_some, test_tested, hot_run_eased, hot_run_work}
 use Rattle.machine.proofs.Counts.{count_le}
 use Rattle.machine.proofs.Cold.{idle_hot}
-use Rattle.machine.proofs.Calls.{most, work_fits}
+use Rattle.machine.proofs.Calls.{work_fits}
 use Rattle.machine.proofs.Laws.{length_fits}
 
 pub work_small : (m : ℕ) (g : Option ℕ) (s : Machine) → m ≤ 4096 → Mid m g s → work s.ring < 2 ^ 28

@@ -1,12 +1,11 @@
 -- Faults: there is a place for the new entry, and what the fault answers is the machine's answer.
-use Rattle.std.proofs.Common.{◌≡◌, ℕ, ◌+◌, ◌*◌, ◌^◌, ◌<◌, ◌≤◌, Bool, true, false, cond, ltb, List, [], length, is_some, Some, None, vec_items, vec_len, Option, sym, refl, ap, ◌∙◌, subst, add-zero, arith}
+use Rattle.std.proofs.Common.{◌≡◌, ℕ, ◌+◌, ◌*◌, ◌^◌, ◌<◌, ◌≤◌, Bool, true, false, cond, ltb, List, length, is_some, Some, None, vec_items, vec_len, Option, sym, refl, ap, ◌∙◌, subst, add-zero, arith}
 use Rattle.std.proofs.lemmas.List.{length-map}
 use Rattle.machine.specs.Entry as model
 use Rattle.machine.specs.Hands.{Machine, HotRun, Steps, steps}
-use Rattle.machine.specs.Borrow.{a_hit, a_test_fault, a_cold_fault, granted, full, refusal_at, refusal, hit, recalled, enter, key_of, Room, Borrow, hits, test_faults, cold_faults}
-use Rattle.machine.specs.Facts.{Mid, Well}
-use Rattle.machine.proofs.Counts.{differ, none_some, first_passes, first_none, count_both}
-use Rattle.machine.proofs.Moves.{moved_place}
+use Rattle.machine.specs.Borrow.{a_hit, a_test_fault, a_cold_fault, granted, full, refusal_at, refusal, hit, enter, key_of, Room, Borrow, hits, test_faults, cold_faults}
+use Rattle.machine.specs.Facts.{Mid}
+use Rattle.machine.proofs.Counts.{differ, none_some, count_both}
 use Rattle.machine.proofs.Calls.{Fair, Roomed, room_roomed, enter_mid, fault_fair, recall_fair, recalled_eased}
 use Rattle.machine.proofs.Loops.{work_small, hot_run_small}
 use Rattle.plain.specs.declared.hands.State.{State}

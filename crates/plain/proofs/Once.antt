@@ -1,5 +1,5 @@
 -- What holds of a simulator at every moment: it has one proof at most, and it does not ask what the keys are.
-use Rattle.std.proofs.Common.{◌≡◌, ℕ, ◌≤◌, Bool, List, [], ◌∷◌, vec_items, Option, refl, ap, arith}
+use Rattle.std.proofs.Common.{◌≡◌, ℕ, Bool, List, [], ◌∷◌, vec_items, Option, refl, ap, arith}
 use mathlib.Core.Bool.{Bool-set}
 use mathlib.Core.HLevel.{→_prop}
 use mathlib.Core.Logic.{∥∥₁_elim}

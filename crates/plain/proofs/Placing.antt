@@ -1,9 +1,9 @@
 -- A change at the place of the first entry that passes a test is a change of the machine's list.
-use Rattle.std.proofs.Common.{◌≡◌, ℕ, suc, ◌+◌, ◌<◌, ◌≤◌, Bool, true, false, cond, List, [], ◌∷◌, ◌++◌, map, length, get_or, take, drop, Some, None, Option, sym, refl, ap, ◌∙◌, ap₂, arith}
+use Rattle.std.proofs.Common.{◌≡◌, ℕ, suc, ◌<◌, ◌≤◌, Bool, true, false, cond, List, [], ◌∷◌, ◌++◌, map, length, get_or, take, drop, Some, None, Option, sym, refl, ap, ◌∙◌, ap₂, arith}
 use Rattle.std.specs.Option.{option_to_list}
 use Rattle.std.proofs.lemmas.List.{map-append}
 use Rattle.machine.specs.Entry as model
-use Rattle.machine.specs.Hands.{Machine, turned, turned_cold, hot_ring, hot_cold, hot_step}
+use Rattle.machine.specs.Hands.{Machine, turned, turned_cold, hot_step}
 use Rattle.plain.specs.declared.entries.Entry.{Entry}
 use Rattle.plain.specs.declared.entries.Question.{Question}
 use Rattle.plain.specs.Entries.{entry_of, entries_of, listed, asks, place}

@@ -1,5 +1,5 @@
 -- Turn after turn of a cold run.
-use Rattle.std.proofs.Common.{◌≡◌, ℕ, suc, ◌+◌, ◌*◌, ◌^◌, ◌<◌, ◌≤◌, None, sym, refl, subst, add-zero, zero-add, arith}
+use Rattle.std.proofs.Common.{ℕ, ◌+◌, ◌≤◌, None, refl, subst, add-zero, zero-add, arith}
 use Rattle.machine.specs.Entry as model
 use Rattle.machine.specs.Hands.{Machine, promoted, retested, steps, ColdRun}
 use Rattle.machine.specs.Facts.{Mid}

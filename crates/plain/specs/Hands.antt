@@ -9,7 +9,6 @@ use Rattle.machine.specs.Entry as model
 use Rattle.machine.specs.Hands.{Machine, hot_step, promote, retest, evict, HotRun, TestRun}
 use Rattle.machine.specs.Hands as hands
 use Rattle.machine.specs.Borrow as rules
-use Rattle.plain.specs.declared.entries.Entry.{Entry}
 use Rattle.plain.specs.declared.hands.State.{State}
 use Rattle.plain.specs.declared.hands.Steps.{Steps}
 use Rattle.plain.specs.declared.hands.Turn.{Turn}

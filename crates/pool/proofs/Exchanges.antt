@@ -1,5 +1,5 @@
 -- From the ring's answer to a borrow to what the pool does with the pages.
-use Rattle.std.proofs.Common.{◌≡◌, ℕ, ◌+◌, ◌*◌, ◌<◌, ◌≤◌, Bool, true, false, cond, List, [], is_some, Some, None, Option, unwrap_or, sym, refl, ap, ◌∙◌, subst, ap₂, arith}
+use Rattle.std.proofs.Common.{◌≡◌, ℕ, ◌+◌, ◌*◌, ◌≤◌, Bool, true, false, cond, List, [], is_some, Some, None, Option, unwrap_or, sym, refl, ap, ◌∙◌, subst, ap₂, arith}
 use Rattle.machine.specs.Entry.{Entry}
 use Rattle.machine.specs.Hands.{Machine, Steps}
 use Rattle.machine.specs.Borrow as rules
@@ -13,7 +13,7 @@ use Rattle.ring.specs.declared.calls.Outcome.{Outcome}
 use Rattle.ring.specs.declared.calls.Outcome.TheVariants.{Hit, TestFault, ColdFault}
 use Rattle.ring.specs.declared.calls.Refusal.{Refusal}
 use Rattle.ring.specs.declared.calls.Refusal.TheVariants.{TooManyLoans, NoFrame}
-use Rattle.promise.specs.State.{State, page_size, part, occupant, holds}
+use Rattle.promise.specs.State.{State, part, occupant, holds}
 use Rattle.promise.specs.Serves as serves
 use Rattle.promise.specs.Serves.{Answer, lends, loan_of, denied, by_pool, by_store, to_borrow, by_machine, asked_borrow, asked, sent_out, borrows, Serves}
 use Rattle.promise.specs.Facts.{Facts}

@@ -1,11 +1,10 @@
 -- A flush that goes from frame to frame.
-use Rattle.std.proofs.Common.{◌≡◌, ℕ, suc, ◌+◌, ◌*◌, ◌<◌, ◌≤◌, Bool, true, false, cond, List, is_some, Some, None, Option, sym, refl, ap, ◌∙◌, subst, ap₂, add-one, arith}
+use Rattle.std.proofs.Common.{◌≡◌, ℕ, suc, ◌+◌, ◌≤◌, Bool, true, false, cond, List, is_some, Some, None, Option, sym, refl, ap, ◌∙◌, subst, ap₂, add-one, arith}
 use Rattle.machine.specs.Entry.{Entry, one, count}
 use Rattle.machine.specs.Hands.{Machine}
 use Rattle.machine.specs.Borrow as rules
 use Rattle.machine.specs.Borrow.{altered_at, mark_page}
 use Rattle.stores.specs.Meaning.{Meaning}
-use Rattle.stores.specs.Parts.{part_of}
 use Rattle.promise.specs.State.{State, page_size, part, occupant}
 use Rattle.promise.specs.Serves.{to_flush, wrote, is_altered, sent_out, written_below, unaltered, flushed, flushes, Serves}
 use Rattle.promise.specs.Facts.{Facts}

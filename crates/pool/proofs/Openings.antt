@@ -1,10 +1,8 @@
 -- The questions of opening, and the state that it leaves.
-use Rattle.std.proofs.Common.{◌≡◌, ℕ, ◌+◌, ◌*◌, ◌<◌, ◌≤◌, Bool, true, false, cond, ◌&&◌, eqb, leb, ◌⊎◌, List, [], length, Some, None, Option, sym, refl, ap, ◌∙◌, subst, inl, inr, arith}
+use Rattle.std.proofs.Common.{◌≡◌, ℕ, ◌*◌, ◌<◌, ◌≤◌, Bool, true, false, cond, ◌&&◌, eqb, leb, ◌⊎◌, List, [], length, Some, None, Option, sym, refl, ap, ◌∙◌, subst, inl, inr, arith}
 use Rattle.std.proofs.lemmas.Bool.{eqb-true, leb-true, and_parts}
 use Rattle.std.proofs.lemmas.Bool.Decides.{nat_tests}
 use Rattle.stores.specs.Meaning.{Meaning, WholePages}
-use Rattle.chains.specs.declared.cell.Cell.{Cell}
-use Rattle.rows.specs.declared.Entry.{Entry}
 use Rattle.rows.specs.Rows.{Stands}
 use Rattle.machine.specs.Hands.{Machine, opened}
 use Rattle.machine.specs.Borrow.{carries}
@@ -14,9 +12,7 @@ use Rattle.promise.specs.Uses as promise
 use Rattle.promise.specs.Uses.{Led}
 use Rattle.promise.proofs.Histories.{promised}
 use Rattle.promise.proofs.Uses.{owed}
-use Rattle.pool.specs.Asked.{Holding, holding, state, Ready, Opened}
-use Rattle.pool.specs.Reading.{carried}
-use Rattle.pool.specs.declared.state.Pool.{Pool}
+use Rattle.pool.specs.Asked.{Holding, state, Opened}
 
 pub refused_1 : (p m b c : ℕ) → (p < 1) ⊎ ((1 ≤ p) × (4096 < p)) → Some 1 ≡ open_refusal p m b c
 refused_1 p m b c (inl h) = grind (arith, nat_tests)

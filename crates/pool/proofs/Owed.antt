@@ -1,5 +1,5 @@
 -- What the public calls owe, from what the inner ones are served with.
-use Rattle.std.proofs.Common.{◌≡◌, ℕ, ◌+◌, ◌-◌, ◌*◌, ◌<◌, ◌≤◌, Bool, true, false, cond, ◌&&◌, eqb, ltb, List, length, is_ok, Some, None, Ok, Err, Option, Result, sym, refl, ap, ◌∙◌, subst, arith}
+use Rattle.std.proofs.Common.{◌≡◌, ℕ, ◌*◌, ◌≤◌, Bool, true, false, cond, eqb, ltb, List, length, is_ok, Some, None, Ok, Err, Option, Result, sym, refl, ap, ◌∙◌, subst, arith}
 use Rattle.std.proofs.lemmas.Bool.{and_from, eq-eqb, lt-ltb, cond-true, cond-false}
 use Rattle.chains.specs.declared.cell.Cell.{Cell}
 use Rattle.rows.specs.declared.Entry.{Entry}
@@ -17,7 +17,7 @@ use Rattle.pool.specs.declared.state.Report.{Report}
 use Rattle.pool.specs.declared.faults.PoolFault.{PoolFault}
 use Rattle.pool.specs.declared.faults.PoolFault.TheVariants.{FrameBytes, Cells}
 use Rattle.pool.specs.Faults.{denial}
-use Rattle.pool.specs.Asked.{Holding, holding, state, sizes, misfit, sizes_of, Ready, Supposed, Done, Misfit, Asked}
+use Rattle.pool.specs.Asked.{Holding, holding, state, sizes, misfit, sizes_of, Ready, Asked}
 use Rattle.pool.specs.Loans.{lent_at, returned_at, Own}
 use Rattle.pool.specs.Reading.{state_of, call_of, loan_in, lent_by, altered_by, returned_by, carried}
 use Rattle.promise.proofs.Histories.{one_answer}

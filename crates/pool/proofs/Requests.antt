@@ -1,5 +1,5 @@
 -- What a view, an alteration and a return owe, from what their code does.
-use Rattle.std.proofs.Common.{◌≡◌, ℕ, ◌+◌, ◌-◌, ◌*◌, ◌<◌, ◌≤◌, Bool, true, false, cond, ◌&&◌, eqb, ltb, leb, List, ◌++◌, length, take, drop, Some, None, Option, sym, refl, ap, ◌∙◌, subst, ap₂, arith, length-drop, length-take}
+use Rattle.std.proofs.Common.{◌≡◌, ℕ, ◌+◌, ◌-◌, ◌*◌, ◌<◌, ◌≤◌, true, false, cond, eqb, ltb, leb, List, ◌++◌, length, take, drop, Some, None, sym, ap, ◌∙◌, subst, ap₂, arith, length-drop, length-take}
 use borrow.Rule.Slice.PartMut.{put_mid}
 use Rattle.std.proofs.lemmas.List.{drop-drop}
 use Rattle.std.proofs.lemmas.Nat.{mul-le}
@@ -7,10 +7,9 @@ use Rattle.std.proofs.lemmas.Bool.{cond-true, cond-false, and_parts, le-leb, lt-
 use Rattle.machine.specs.Hands.{Machine}
 use Rattle.machine.specs.Borrow.{carries, returned, give_back, mark_page}
 use Rattle.stores.specs.Parts.{laid}
-use Rattle.promise.specs.State.{State, page_size, part}
+use Rattle.promise.specs.State.{page_size, part}
 use Rattle.promise.specs.Serves as serves
 use Rattle.promise.specs.Serves.{Loan, Answer, shows, done, denied, by_pool, by_store, to_view, to_alter, to_return, good, asked, views, alters, returns, Serves}
-use Rattle.promise.specs.Uses.{Led, Limits}
 use Rattle.promise.proofs.Uses.{owed}
 use Rattle.pool.specs.Asked.{Holding, state, sizes_of, Ready}
 use Rattle.pool.specs.Reading.{call_of}

@@ -1,10 +1,10 @@
 -- The two sizes, and where a frame lies.
-use Rattle.std.proofs.Common.{◌≡◌, ℕ, ◌+◌, ◌*◌, ◌<◌, ◌≤◌, Bool, true, false, cond, eqb, ltb, List, length, Some, None, Option, sym, refl, ap, ◌∙◌, arith}
+use Rattle.std.proofs.Common.{◌≡◌, ℕ, ◌+◌, ◌*◌, ◌<◌, ◌≤◌, Bool, true, false, cond, eqb, ltb, List, length, Some, None, Option, refl, ◌∙◌, arith}
 use Rattle.std.proofs.lemmas.Bool.{eqb-true, ltb-true, and_parts, cond-true}
 use Rattle.machine.specs.Entry.{Entry}
 use Rattle.machine.specs.Borrow.{loans_at, carries}
 use Rattle.promise.specs.State.{State, page_size, occupant}
-use Rattle.promise.specs.Serves.{Loan, Request, Call, Answer, by_pool, denied, good, asked, questions, Does, Serves, refuses, grants}
+use Rattle.promise.specs.Serves.{Loan, Request, Answer, by_pool, denied, good, asked, questions, Does, Serves, refuses, grants}
 use Rattle.promise.specs.Facts.{Facts}
 use Rattle.promise.proofs.Bytes.{row}
 use Rattle.promise.proofs.Uses.{storing}

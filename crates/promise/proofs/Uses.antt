@@ -2,7 +2,7 @@
 use Rattle.std.proofs.Common.{◌≡◌, ℕ, zero, suc, ◌*◌, ◌<◌, ◌≤◌, Bool, true, false, cond, eqb, ◌⊎◌, List, [], ◌∷◌, ◌++◌, map, take, drop, is_some, Some, None, Option, sym, refl, ap, ◌∙◌, subst, ap₂, inl, inr, arith}
 use Rattle.std.proofs.lemmas.List.{append-nil, append_assoc}
 use Rattle.std.proofs.lemmas.Bool.{eq-eqb, cases_lt, cond-true, cond-false}
-use Rattle.machine.specs.Entry.{Entry, named, count, first}
+use Rattle.machine.specs.Entry.{Entry, named, first}
 use Rattle.machine.specs.Hands.{Machine}
 use Rattle.machine.specs.Borrow.{Outcome, a_hit, a_test_fault, a_cold_fault, Report, loans_at, key_of, carries}
 use Rattle.machine.specs.Facts.{Well}

@@ -1,5 +1,5 @@
 -- The machine's questions about its list and its changes of it, from those of the rows.
-use Rattle.std.proofs.Common.{◌≡◌, ℕ, ◌+◌, Bool, true, false, cond, not, ◌&&◌, eqb, List, [], ◌∷◌, ◌++◌, is_some, Some, None, Option, sym, refl, ap, ◌∙◌, ap₂, arith}
+use Rattle.std.proofs.Common.{◌≡◌, ℕ, ◌+◌, Bool, true, false, cond, not, ◌&&◌, eqb, List, [], ◌∷◌, ◌++◌, is_some, Some, None, Option, sym, refl, ap, ◌∙◌, ap₂}
 use Rattle.keys.specs.declared.FrameNo.{FrameNo}
 use Rattle.std.specs.List.{AllByRecursion as All}
 use Rattle.std.proofs.lemmas.List.{map-append}
@@ -10,7 +10,6 @@ use Rattle.rows.specs.declared.Entry.{Entry}
 use Rattle.rows.specs.declared.Row.{Row}
 use Rattle.rows.proofs.Walks.{Nearest, nearest, nearest_cut, nearest_put}
 use Rattle.machine.specs.Entry as model
-use Rattle.machine.proofs.Counts.{differ}
 use Rattle.ring.specs.Model.{entry_in, entries_in, frame_in}
 
 -- the questions agree

@@ -1,8 +1,8 @@
 -- Turn after turn of a cold run.
-use Rattle.std.proofs.Common.{◌≡◌, ℕ, suc, ◌+◌, ◌<◌, ◌≤◌, List, Some, None, Option, sym, refl, ◌∙◌, subst, add-zero, zero-add, arith}
+use Rattle.std.proofs.Common.{◌≡◌, ℕ, suc, ◌+◌, ◌<◌, ◌≤◌, List, Some, None, sym, refl, ◌∙◌, subst, add-zero, zero-add, arith}
 use Rattle.keys.specs.declared.FrameNo.{FrameNo}
 use Rattle.machine.specs.Entry as model
-use Rattle.machine.specs.Hands.{Machine, hot_step, promote, promoted, retest, retested, evict, HotRun, TestRun, steps, Steps, ColdRun}
+use Rattle.machine.specs.Hands.{Machine, hot_step, promoted, retest, retested, HotRun, TestRun, steps, Steps, ColdRun}
 use Rattle.machine.specs.Facts.{Mid}
 use Rattle.machine.proofs.Work.{work, hot_work, head_work}
 use Rattle.machine.proofs.Eased.{promote_eased}
@@ -10,7 +10,7 @@ use Rattle.machine.proofs.Runs.{hot_run_work}
 use Rattle.machine.proofs.Cold.{idle_hot, evict_mid, cold_run_sent}
 use Rattle.machine.proofs.Loops.{ColdLoop, cold_turns_hot, cold_promotes, cold_retests, cold_done}
 use Rattle.ring.specs.declared.hands.Victim.{Victim}
-use Rattle.ring.specs.Turning.{Promotes, Retests, Evicts, Sent}
+use Rattle.ring.specs.Turning.{Promotes, Retests, Evicts}
 
 module _ (m : ℕ) (s : Machine) (a b : ℕ) (x : Machine) (l : ColdLoop m s (steps a b 0) x) where
   -- no candidate: a hot step

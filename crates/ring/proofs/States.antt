@@ -1,21 +1,21 @@
 -- The machine's state after a change of the rows.
-use Rattle.std.proofs.Common.{◌≡◌, ℕ, ◌-◌, ◌<◌, ◌≤◌, Bool, true, false, cond, not, ◌&&◌, ltb, List, [], ◌∷◌, ◌++◌, length, is_some, Some, None, Option, sym, refl, ap, ◌∙◌, ap₂, arith}
+use Rattle.std.proofs.Common.{◌≡◌, ℕ, ◌≤◌, Bool, true, false, ltb, List, [], ◌∷◌, ◌++◌, is_some, Some, None, Option, sym, refl, ap, ◌∙◌, ap₂}
 use Rattle.keys.specs.declared.FrameNo.{FrameNo}
 use Rattle.std.specs.List.{ContainsAt as Has}
-use Rattle.std.proofs.lemmas.List.{map-append, length-map}
+use Rattle.std.proofs.lemmas.List.{map-append}
 use Rattle.chains.specs.declared.cell.Cell.{Cell}
-use Rattle.rows.specs.Rows.{rows_in, without_cell, replaced, first_row, first_by, evictable, remembered, idle, number, cold_resident, unlent, Stands}
+use Rattle.rows.specs.Rows.{rows_in, without_cell, replaced, first_row, first_by, remembered, idle, number, Stands}
 use Rattle.rows.specs.declared.Entry.{Entry}
 use Rattle.rows.specs.declared.Row.{Row}
 use Rattle.rows.proofs.Stand.{tail_parts, cells_apart}
 use Rattle.rows.proofs.Walks.{nearest, nearest_has}
 use Rattle.machine.specs.Entry as model
 use Rattle.machine.specs.Hands.{Machine, turned, turned_by, turned_cold, turned_cold_by, cleared, cooled, unmarked, lowered, hot_ring, hot_cold, hot_step}
-use Rattle.machine.proofs.Counts.{differ, none_some}
+use Rattle.machine.proofs.Counts.{none_some}
 use Rattle.machine.proofs.Calls.{Fair}
 use Rattle.ring.specs.Model.{entry_in, entries_in, frame_in, machine_of}
 use Rattle.ring.specs.declared.Ring.{Ring}
-use Rattle.ring.proofs.Lists.{count_in, none_in, first_in, cut_in, put_in, turn_in, free_is, remembered_is, idle_is}
+use Rattle.ring.proofs.Lists.{count_in, none_in, first_in, cut_in, put_in, turn_in, remembered_is, idle_is}
 
 -- what the hot step makes of an entry, by case
 pub turned_set : (e : model.Entry) → e.hot ≡ true → e.bit ≡ true → turned e ≡ cleared e ∷ []

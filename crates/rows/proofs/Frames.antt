@@ -1,11 +1,11 @@
 -- The directory finds the row of a frame: the cell of its slot has that row, or there is none.
-use Rattle.std.proofs.Common.{◌≡◌, ℕ, suc, ◌+◌, ◌<◌, ◌≤◌, Bool, true, false, cond, eqb, ◌≢◌, ◌⊎◌, List, [], ◌∷◌, ◌++◌, length, Some, None, Option, sym, refl, ap, ◌∙◌, subst, inl, inr, arith}
+use Rattle.std.proofs.Common.{◌≡◌, ℕ, ◌<◌, Bool, true, false, cond, ◌≢◌, ◌⊎◌, List, [], ◌∷◌, ◌++◌, Some, None, Option, sym, refl, ap, ◌∙◌, subst, inl, inr, arith}
 use Rattle.keys.specs.declared.FrameNo.{FrameNo}
 use Rattle.keys.specs.declared.CellNo.{CellNo}
 use Rattle.std.specs.List.{ContainsAt as Has, AllByRecursion as All}
 use Rattle.std.proofs.lemmas.List.{length-append, length-map}
 use Rattle.std.proofs.ByRecursion.{all-has, all_has_itself, All-weaker, All-append, has_append_right}
-use Rattle.std.proofs.lemmas.Bool.{cases_eq, cases_Bool, cond-true, cond-false, eqb-true}
+use Rattle.std.proofs.lemmas.Bool.{cases_eq, cases_Bool, cond-false, eqb-true}
 use Rattle.chains.specs.Orders.{Apart, Misses}
 use Rattle.chains.specs.declared.cell.Cell.{Cell}
 use Rattle.chains.specs.declared.cell.Chain.TheVariants.{Ring, Free}

@@ -7,7 +7,7 @@
 --   Linked, Members                     what holding them is; what it says of one row
 --   Slot, Kept, Unnamed                 the directory's clause; what a change may do to an entry's frame
 --   relinked, rewritten, joined, cut_out what a change does to the shape of the cells
-use Rattle.std.specs.Prelude.{◌≡◌, ℕ, ◌+◌, ◌<◌, Bool, true, false, cond, not, ◌&&◌, List, [], ◌∷◌, ◌++◌, map, length, is_some, Some, None, MatchBool, filter, Option, ◌==◌}
+use Rattle.std.specs.Prelude.{◌≡◌, ℕ, ◌+◌, ◌<◌, Bool, false, cond, not, ◌&&◌, List, [], ◌∷◌, map, length, is_some, Some, None, MatchBool, filter, Option, ◌==◌}
 use Rattle.keys.specs.declared.FrameNo.{FrameNo}
 use Rattle.std.specs.List.{ContainsAt as Has, AllByRecursion as All}
 use Rattle.chains.specs.Orders.{Misses}

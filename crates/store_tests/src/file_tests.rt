@@ -43,7 +43,7 @@ fn writes_a_page_and_no_other(rt: HostRuntime) -> Result<(), Fail> {
         assert!(rt; file.holds(&PageNo(2)));
         assert!(rt; !file.holds(&PageNo(3)));
         assert!(rt; file.write(&PageNo(1), &[8, 9]).is_ok());
-        assert_eq!(rt; file.bytes(), &[1, 2, 8, 9, 5, 6]);
+        assert_eq!(rt; file.bytes(), [1u8, 2, 8, 9, 5, 6].as_slice());
         let mut buffer = [0u8; 2];
         assert!(rt; file.read(&PageNo(1), &mut buffer).is_ok());
         assert_eq!(rt; buffer[0], 8);
@@ -65,7 +65,7 @@ fn asks_15_before_9_and_changes_nothing(rt: HostRuntime) -> Result<(), Fail> {
         assert_eq!(rt; number(file.read(&PageNo(u32::MAX), &mut long[0..2])), 9);
         assert_eq!(rt; long[0], 7);
         let back = file.into_bytes();
-        assert_eq!(rt; back.as_slice(), &[1, 2, 3, 4]);
+        assert_eq!(rt; back.as_slice(), [1u8, 2, 3, 4].as_slice());
     }
     Ok(())
 }

@@ -1,5 +1,5 @@
 -- What an answer of a read tells of the store.
-use Rattle.std.proofs.Common.{◌≡◌, ℕ, Bool, true, false, cond, eqb, List, Some, None, Option, refl, ◌∙◌, arith}
+use Rattle.std.proofs.Common.{◌≡◌, ℕ, Bool, true, false, cond, eqb, List, Some, None, Option, refl, arith}
 use Rattle.stores.specs.Meaning.{Meaning, held, read_refusal}
 
 asked : (b h : Bool) → ◌≡◌ {A = Option ℕ} None (cond b (cond h None (Some 9)) (Some 15)) → h ≡ true

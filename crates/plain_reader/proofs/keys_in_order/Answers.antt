@@ -1,4 +1,4 @@
-use Rattle.std.proofs.Common.{◌+◌, fold, ap, ◌∙◌, arith, rules}
+use Rattle.std.proofs.Common.{◌+◌, fold, ap, ◌∙◌, arith}
 use Rattle.std.proofs.lemmas.List.{take_all}
 use Rattle.std.proofs.lemmas.List.Sums.{fold_more}
 use Rattle.plain_reader.proofs.keys_in_order.Goals as goal

@@ -1,7 +1,7 @@
-use Rattle.std.proofs.Common.{◌≡◌, ◌-◌, sym, refl, ap, ◌∙◌, subst}
+use Rattle.std.proofs.Common.{◌-◌, sym, refl, ap, ◌∙◌, subst}
 use Rattle.machine.specs.Facts.{Well}
 use Rattle.machine.proofs.Calls.{opened_well}
-use Rattle.ring.specs.Model.{machine_of, entries_in}
+use Rattle.ring.specs.Model.{entries_in}
 use Rattle.ring.specs.declared.Ring.{Ring}
 use Rattle.machine.specs.Hands.{opened}
 use Rattle.ring.proofs.States.{state_is, ring_is}

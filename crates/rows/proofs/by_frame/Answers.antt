@@ -1,5 +1,4 @@
-use Rattle.std.proofs.Common.{◌≡◌, sym, refl, ap, ◌∙◌}
-use Rattle.chains.specs.Shape.{shape_of}
+use Rattle.std.proofs.Common.{sym, refl}
 use Rattle.rows.proofs.Frames.{frame_empty, frame_other, frame_found}
 use Rattle.rows.proofs.by_frame.Goals as goal
 

@@ -1,13 +1,12 @@
-use Rattle.std.proofs.Common.{◌≡◌, ◌+◌, ◌<◌, Bool, true, false, ◌++◌, length, get_or, vec_items, sym, refl, ap, ◌∙◌, subst, arith, rules}
+use Rattle.std.proofs.Common.{◌+◌, ◌<◌, true, false, ◌++◌, length, get_or, vec_items, sym, refl, ap, ◌∙◌, subst, arith}
 use Rattle.std.specs.List.{ContainsAt as Has}
 use Rattle.std.proofs.lemmas.Result.{err_from_is_err_and}
 use Rattle.chains.specs.Shape.{shape_of}
-use Rattle.rows.specs.declared.Entry.{Entry}
 use Rattle.rows.specs.declared.Row.{Row}
 use Rattle.rows.specs.Rows.{cells_of, entries_of, rows_in}
 use Rattle.rows.proofs.Stand.{row_inside, row_within}
 use Rattle.rows.proofs.Walks.{along_ring, walk_passed, walk_empty, walk_starts}
-use Rattle.rows.proofs.Listed.{Down, down_more, down_all, none_listed}
+use Rattle.rows.proofs.Listed.{down_more, down_all, none_listed}
 use Rattle.rows.proofs.list.Goals as goal
 
 pub returns-in_default : goal.returns-in_default

@@ -1,4 +1,4 @@
-use Rattle.std.proofs.Common.{Some, None, sym, refl, ap, ◌∙◌, subst}
+use Rattle.std.proofs.Common.{None, sym, refl, ap, ◌∙◌, subst}
 use Rattle.chains.specs.Shape.{shape_of}
 use Rattle.chains.proofs.Shapes.{shape_is}
 use Rattle.rows.specs.Rows.{Fits, noted}

@@ -2,7 +2,7 @@ use Rattle.std.proofs.Common.{◌≡◌, ◌+◌, ◌<◌, [], length, None, sym
 use Rattle.std.specs.List.{AllByRecursion as All}
 use Rattle.chains.specs.Orders.{Misses}
 use Rattle.chains.specs.declared.cell.Chain.TheVariants.{Ring, Cold, Test, Free}
-use Rattle.chains.specs.Shape.{shape_of, pushed, stored}
+use Rattle.chains.specs.Shape.{shape_of, pushed}
 use Rattle.chains.proofs.Shapes.{size_is}
 use Rattle.rows.proofs.Opening.{Emptied, next_free, one_more, all_empty}
 use Rattle.rows.proofs.Stand.{stands_on}

@@ -1,6 +1,6 @@
-use Rattle.std.proofs.Common.{◌≡◌, ◌<◌, is_some, sym, ap, ◌∙◌, subst}
+use Rattle.std.proofs.Common.{◌≡◌, is_some, sym, ap, ◌∙◌}
 use Rattle.chains.specs.Shape.{shape_of}
-use Rattle.rows.proofs.Stand.{row_inside, row_entry}
+use Rattle.rows.proofs.Stand.{row_entry}
 use Rattle.rows.proofs.Walks.{row_of}
 use Rattle.rows.proofs.row_at.Goals as goal
 

@@ -1,6 +1,6 @@
-use Rattle.std.proofs.Common.{◌≡◌, ℕ, ◌<◌, Some, sym, ap, ◌∙◌, subst, arith}
+use Rattle.std.proofs.Common.{◌≡◌, ℕ, Some, sym, ap, ◌∙◌, arith}
 use Rattle.chains.specs.Shape.{shape_of}
-use Rattle.rows.proofs.Stand.{tail_none, tail_some, row_inside, row_entry}
+use Rattle.rows.proofs.Stand.{tail_none, tail_some, row_entry}
 use Rattle.rows.proofs.tail_row.Goals as goal
 
 pub returns-in_default : goal.returns-in_default

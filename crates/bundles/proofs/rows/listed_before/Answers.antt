@@ -1,4 +1,4 @@
-use Rattle.std.proofs.Common.{sym, ◌∙◌, arith}
+use Rattle.std.proofs.Common.{sym, ◌∙◌}
 use Rattle.bundles.proofs.Passed.{unlisted_begin, unlisted_more, listed_here, listed_none}
 use Rattle.bundles.proofs.rows.listed_before.Goals as goal
 

@@ -1,4 +1,3 @@
-use Rattle.std.proofs.Common.{◌<◌, length, sym, arith}
 use Rattle.chains.specs.Orders.{Sound, order_of}
 use Rattle.chains.proofs.Splices.{order_is, sound_from, neighbours, unlinked}
 use Rattle.chains.proofs.link.unlink.Goals as goal

@@ -1,4 +1,4 @@
-use Rattle.std.proofs.Common.{◌≡◌, ◌++◌, string_bytes, sym, refl, ap, ◌∙◌}
+use Rattle.std.proofs.Common.{◌++◌, string_bytes, sym, ap, ◌∙◌}
 use Rattle.bundles.specs.Bundles.{listed_by, listing_of}
 use Rattle.console.proofs.Printed.{line_of, lines_more, listed_there}
 use Rattle.console.proofs.listings.add_row.Goals as goal

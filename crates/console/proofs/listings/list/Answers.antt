@@ -1,4 +1,4 @@
-use Rattle.std.proofs.Common.{◌≡◌, ◌++◌, string_bytes, codes, decimal, sym, ap, ◌∙◌, ap₂, arith}
+use Rattle.std.proofs.Common.{◌++◌, codes, decimal, ap, ◌∙◌, ap₂, arith}
 use Rattle.std.proofs.lemmas.List.{take_all}
 use Rattle.bundles.specs.Bundles.{listed_by}
 use Rattle.console.specs.Lines.{row_lines}

@@ -1,4 +1,4 @@
-use Rattle.std.proofs.Common.{◌≡◌, vec_items, arith}
+use Rattle.std.proofs.Common.{vec_items, arith}
 use Rattle.plain.proofs.Placing.{missing, found}
 use Rattle.plain.proofs.lists.find.Goals as goal
 

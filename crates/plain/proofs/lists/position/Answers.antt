@@ -1,4 +1,4 @@
-use Rattle.std.proofs.Common.{◌≡◌, ◌<◌, ◌≤◌, true, false, length, sym, ◌∙◌, arith}
+use Rattle.std.proofs.Common.{◌<◌, ◌≤◌, length, sym, arith}
 use Rattle.plain.specs.Entries.{entry_of, asks}
 use Rattle.plain.proofs.Looking.{place_more, place_here, place_end}
 use Rattle.plain.proofs.lists.position.Goals as goal

@@ -1,4 +1,4 @@
-use Rattle.std.proofs.Common.{◌≡◌, ◌<◌, ◌≤◌, true, false, length, sym, ap, ◌∙◌, arith}
+use Rattle.std.proofs.Common.{◌≡◌, ◌<◌, ◌≤◌, length, ap, arith}
 use Rattle.machine.specs.Entry.{one}
 use Rattle.plain.specs.Entries.{entry_of, asks}
 use Rattle.plain.proofs.Looking.{count_more, count_end}

@@ -1,4 +1,4 @@
-use Rattle.std.proofs.Common.{◌≡◌, ℕ, ◌+◌, ◌<◌, ◌≤◌, sym, refl, ap, ◌∙◌, subst, arith}
+use Rattle.std.proofs.Common.{ℕ, ◌+◌, sym, refl, ap, ◌∙◌, subst, arith}
 use Rattle.stores.specs.Parts.{part_of}
 use Rattle.machine.specs.Borrow.{occupant}
 use Rattle.ring.specs.Model.{machine_of}

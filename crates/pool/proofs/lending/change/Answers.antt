@@ -1,6 +1,5 @@
-use Rattle.std.proofs.Common.{◌≡◌, ◌+◌, ◌<◌, ◌≤◌, length, sym, refl, ap, ◌∙◌, subst, arith}
+use Rattle.std.proofs.Common.{◌+◌, ◌<◌, length, sym, refl, arith}
 use Rattle.std.proofs.lemmas.Result.{err_from_is_err_and}
-use Rattle.pool.specs.Reading.{altered_by}
 use Rattle.pool.proofs.Exchanges.{store_denied, store_yes}
 use Rattle.pool.proofs.Requests.{placed, alter_denied, alter_sealed, alter_past, alter_served}
 use Rattle.pool.proofs.lending.change.Goals as goal

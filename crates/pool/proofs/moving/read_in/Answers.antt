@@ -1,4 +1,4 @@
-use Rattle.std.proofs.Common.{◌≡◌, ◌+◌, ◌-◌, ◌*◌, arith}
+use Rattle.std.proofs.Common.{◌+◌, ◌-◌, ◌*◌, arith}
 use Rattle.pool.proofs.Requests.{put_laid, kept_length}
 use Rattle.pool.proofs.moving.read_in.Goals as goal
 

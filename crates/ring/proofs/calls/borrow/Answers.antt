@@ -1,8 +1,7 @@
-use Rattle.std.proofs.Common.{◌≡◌, sym, refl, ap, ◌∙◌}
+use Rattle.std.proofs.Common.{sym, refl}
 use Rattle.keys.specs.Same.{same_list}
 use Rattle.machine.specs.Entry.{named}
 use Rattle.machine.proofs.Calls.{borrow_kept}
-use Rattle.ring.specs.Model.{machine_of}
 use Rattle.ring.proofs.States.{none_found}
 use Rattle.ring.proofs.calls.borrow.Goals as goal
 

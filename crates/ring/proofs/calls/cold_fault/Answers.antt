@@ -1,4 +1,4 @@
-use Rattle.std.proofs.Common.{◌≡◌, ℕ, ◌*◌, ◌≤◌, List, length, None, sym, refl, ap, ◌∙◌, subst}
+use Rattle.std.proofs.Common.{◌*◌, ◌≤◌, length, sym, refl, ◌∙◌, subst}
 use Rattle.machine.specs.Borrow.{refuses}
 use Rattle.ring.specs.Model.{machine_of, steps_of}
 use Rattle.ring.proofs.Faults.{refusal_outside, ready_outside, ready_roomed, gap_open, gone_key, cold_answer, written}

@@ -1,4 +1,4 @@
-use Rattle.std.proofs.Common.{◌≡◌, [], ◌∷◌, sym, refl, ap, ◌∙◌, subst}
+use Rattle.std.proofs.Common.{[], ◌∷◌, sym, refl, subst}
 use Rattle.rows.specs.Rows as rows
 use Rattle.machine.specs.Entry.{lies_in}
 use Rattle.machine.specs.Borrow.{marking, mark_page}

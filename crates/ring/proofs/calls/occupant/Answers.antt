@@ -1,4 +1,4 @@
-use Rattle.std.proofs.Common.{sym, refl}
+use Rattle.std.proofs.Common.{sym}
 use Rattle.rows.specs.Rows as rows
 use Rattle.machine.specs.Entry.{lies_in}
 use Rattle.ring.proofs.Lists.{lies_is}

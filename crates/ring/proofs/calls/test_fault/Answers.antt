@@ -1,4 +1,4 @@
-use Rattle.std.proofs.Common.{◌≡◌, ℕ, ◌*◌, ◌≤◌, true, List, length, None, sym, refl, ap, ◌∙◌, subst, arith}
+use Rattle.std.proofs.Common.{◌*◌, ◌≤◌, true, length, None, sym, refl, ap, ◌∙◌, subst, arith}
 use Rattle.keys.specs.Same.{same_list}
 use Rattle.machine.specs.Entry.{named}
 use Rattle.machine.specs.Borrow.{refuses, recalled, Room}

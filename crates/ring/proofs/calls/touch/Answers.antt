@@ -1,4 +1,4 @@
-use Rattle.std.proofs.Common.{◌≡◌, [], ◌∷◌, sym, refl, ◌∙◌}
+use Rattle.std.proofs.Common.{[], ◌∷◌, refl}
 use Rattle.keys.specs.Same.{same_list}
 use Rattle.machine.specs.Entry.{named}
 use Rattle.machine.specs.Borrow.{lent, hit}

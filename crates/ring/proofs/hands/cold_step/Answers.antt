@@ -1,4 +1,4 @@
-use Rattle.std.proofs.Common.{◌≡◌, cond, not, ◌&&◌, [], ◌∷◌, is_some, sym, refl, ap, ◌∙◌}
+use Rattle.std.proofs.Common.{cond, not, ◌&&◌, [], ◌∷◌, is_some, sym, refl, ap, ◌∙◌}
 use Rattle.std.proofs.lemmas.Bool.{false≢true}
 use Rattle.rows.specs.Rows.{evictable, unlent}
 use Rattle.machine.specs.Entry.{free}

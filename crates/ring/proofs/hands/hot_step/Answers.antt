@@ -1,4 +1,4 @@
-use Rattle.std.proofs.Common.{◌≡◌, [], ◌∷◌, sym, refl, ap, ◌∙◌}
+use Rattle.std.proofs.Common.{[], ◌∷◌, sym, refl, ap, ◌∙◌}
 use Rattle.ring.specs.Model.{entry_in}
 use Rattle.ring.specs.declared.Ring.{Ring}
 use Rattle.ring.proofs.Lists.{kept_same}

@@ -1,4 +1,4 @@
-use Rattle.std.proofs.Common.{◌≡◌, cond, [], ◌∷◌, sym, refl, ap, ◌∙◌}
+use Rattle.std.proofs.Common.{cond, [], ◌∷◌, sym, refl, ap}
 use Rattle.std.proofs.lemmas.Bool.{false≢true}
 use Rattle.machine.specs.Entry.{marked}
 use Rattle.machine.specs.Hands.{tested, unmarked, test_step}

@@ -1,6 +1,6 @@
-use Rattle.std.proofs.Common.{◌≡◌, ◌+◌, Some, sym, refl, ◌∙◌, subst, arith}
+use Rattle.std.proofs.Common.{◌+◌, Some, arith}
 use Rattle.machine.specs.Hands.{steps}
-use Rattle.machine.proofs.Loops.{ColdLoop, cold_begins, cold_small}
+use Rattle.machine.proofs.Loops.{cold_begins, cold_small}
 use Rattle.ring.specs.Model.{machine_of}
 use Rattle.ring.proofs.Rounds.{hot_round, hot_less, promoted_mid, promote_round, promote_less, retest_round, retest_less, evicted_mid, run_ends, freed_mid}
 use Rattle.ring.proofs.runs.cold_run.Goals as goal

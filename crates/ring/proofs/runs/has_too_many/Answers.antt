@@ -1,4 +1,4 @@
-use Rattle.std.proofs.Common.{◌≡◌, ltb, sym, refl, ap, ◌∙◌, ap₂}
+use Rattle.std.proofs.Common.{ltb, ap}
 use Rattle.ring.specs.Model.{machine_of}
 use Rattle.ring.proofs.States.{remembereds_are}
 use Rattle.ring.proofs.runs.has_too_many.Goals as goal

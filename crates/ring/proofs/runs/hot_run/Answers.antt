@@ -1,5 +1,4 @@
-use Rattle.std.proofs.Common.{◌≡◌, suc, ◌+◌, ◌≤◌, None, sym, refl, ◌∙◌, subst, arith}
-use Rattle.machine.specs.Hands.{hot_step}
+use Rattle.std.proofs.Common.{suc, ◌+◌, ◌≤◌, None, sym, subst, arith}
 use Rattle.machine.proofs.Work.{work}
 use Rattle.machine.proofs.Loops.{HotLoop, hot_begins, hot_turns, hot_falls, hot_done, hot_small}
 use Rattle.ring.specs.Model.{machine_of}

@@ -1,4 +1,4 @@
-use Rattle.std.proofs.Common.{◌≡◌, ltb, sym, refl, ap, ◌∙◌, ap₂}
+use Rattle.std.proofs.Common.{ltb, ap₂}
 use Rattle.ring.specs.Model.{machine_of}
 use Rattle.ring.proofs.States.{hots_are}
 use Rattle.ring.proofs.runs.is_too_hot.Goals as goal

@@ -1,4 +1,4 @@
-use Rattle.std.proofs.Common.{◌≡◌, suc, ◌+◌, ◌≤◌, sym, refl, ◌∙◌, subst, arith}
+use Rattle.std.proofs.Common.{suc, ◌+◌, ◌≤◌, sym, subst, arith}
 use Rattle.machine.proofs.Loops.{TestLoop, weight, test_begins, test_turns, test_falls, test_loop_done, test_small}
 use Rattle.ring.specs.Model.{machine_of}
 use Rattle.ring.proofs.runs.test_run.Goals as goal

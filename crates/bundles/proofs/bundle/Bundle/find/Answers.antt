@@ -1,6 +1,5 @@
-use Rattle.std.proofs.Common.{◌≡◌, ℕ, ◌+◌, ◌^◌, ◌<◌, List, Some, sym, refl, ap, ◌∙◌, subst, arith}
+use Rattle.std.proofs.Common.{◌≡◌, ◌+◌, ◌^◌, ◌<◌, Some, sym, ap, ◌∙◌, subst, arith}
 use Rattle.bundles.specs.Format.{Row, row_at}
-use Rattle.bundles.specs.Contents.{Found}
 use Rattle.bundles.specs.Bundles.{row_of}
 use Rattle.bundles.specs.declared.rows.RowRecord.{RowRecord}
 use Rattle.bundles.proofs.Passed.{Sought, sought_begin, sought_more, sought_here, sought_none}

@@ -1,6 +1,6 @@
-use Rattle.std.proofs.Common.{◌≡◌, ℕ, ◌+◌, ◌-◌, ◌*◌, List, length, take, drop, sym, refl, ap, ◌∙◌, ap₂, arith}
+use Rattle.std.proofs.Common.{◌≡◌, ◌+◌, ◌-◌, ◌*◌, length, take, drop, ap, ◌∙◌, ap₂, arith}
 use Rattle.std.proofs.lemmas.Slice.{between_to_end}
-use Rattle.bundles.specs.Format.{Row, two, rows_in, rows_of, rows_part, pages_part, count_of_rows}
+use Rattle.bundles.specs.Format.{two, rows_in, rows_of, rows_part, pages_part}
 use Rattle.bundles.specs.Contents.{sections_of}
 use Rattle.bundles.proofs.bundle.Bundle.open.Goals as goal
 

@@ -1,4 +1,4 @@
-use Rattle.std.proofs.Common.{◌+◌, ◌*◌, ◌≤◌, length, arith, rules}
+use Rattle.std.proofs.Common.{◌+◌, ◌*◌, ◌≤◌, length, rules}
 use Rattle.bundles.specs.Bundles.{listed_by}
 use Rattle.bundles.proofs.Placed.{part_within}
 use Rattle.bundles.proofs.reading.BundleStoreDeliveryKey.read.Goals as goal

@@ -1,6 +1,6 @@
-use Rattle.std.proofs.Common.{◌≡◌, ◌+◌, sym, refl, ◌∙◌, subst, arith}
+use Rattle.std.proofs.Common.{◌+◌, refl, ◌∙◌, arith}
 use Rattle.machine.specs.Hands.{steps}
-use Rattle.machine.proofs.Loops.{ColdLoop, cold_begins, cold_small}
+use Rattle.machine.proofs.Loops.{cold_begins, cold_small}
 use Rattle.plain.specs.Hands.{machine_of}
 use Rattle.plain.proofs.Turning.{turn_kept, turn_falls, turn_steps, turn_out}
 use Rattle.plain.proofs.hands.State.cold_run.Goals as goal

@@ -1,4 +1,4 @@
-use Rattle.std.proofs.Common.{◌≡◌, Some, None, vec_items, sym, ◌∙◌, subst}
+use Rattle.std.proofs.Common.{Some, None, vec_items, sym, ◌∙◌, subst}
 use Rattle.machine.specs.Entry as model
 use Rattle.machine.specs.Hands.{HotRun, TestRun}
 use Rattle.machine.specs.Facts.{Mid}

@@ -1,4 +1,4 @@
-use Rattle.std.proofs.Common.{◌≡◌, vec_items}
+use Rattle.std.proofs.Common.{vec_items}
 use Rattle.machine.specs.Hands.{left}
 use Rattle.plain.specs.declared.entries.Question.TheVariants.{Free}
 use Rattle.plain.proofs.Placing.{found_put}

@@ -1,11 +1,11 @@
 -- The state in which the frame is looked for is ready for it, whether or not an entry was taken out.
-use Rattle.std.proofs.Common.{◌≡◌, ◌<◌, None, vec_len, vec_capacity, sym, ◌∙◌, subst, arith}
+use Rattle.std.proofs.Common.{◌<◌, None, vec_len, vec_capacity, sym, ◌∙◌, subst, arith}
 use Rattle.machine.specs.Borrow.{Room}
 use Rattle.machine.specs.Facts.{Mid}
 use Rattle.machine.proofs.Calls.{Fair}
 use Rattle.plain.specs.Hands.{machine_of, steps_of}
 use Rattle.plain.specs.Calls.{recalled_if}
-use Rattle.plain.proofs.Faults.{place-left, Ready, ready, ready_roomed, ready_entered, fault_steps, cold_answer, test_answer}
+use Rattle.plain.proofs.Faults.{place-left, ready, ready_roomed, ready_entered, fault_steps, cold_answer, test_answer}
 use Rattle.plain.proofs.hands.State.fault.Goals as goal
 
 pub room-room-requires : goal.room-room-requires

@@ -1,4 +1,4 @@
-use Rattle.std.proofs.Common.{◌≡◌, [], ◌∷◌, Some, vec_items, ap}
+use Rattle.std.proofs.Common.{[], ◌∷◌, Some, vec_items, ap}
 use Rattle.machine.specs.Borrow.{lent}
 use Rattle.plain.specs.declared.entries.Question.TheVariants.{Named}
 use Rattle.plain.proofs.Placing.{found_put}

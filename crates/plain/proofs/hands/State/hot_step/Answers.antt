@@ -1,4 +1,4 @@
-use Rattle.std.proofs.Common.{◌≡◌, ℕ, ◌<◌, List, [], ◌∷◌, length, vec_items, sym, refl, ap, ◌∙◌, arith}
+use Rattle.std.proofs.Common.{◌≡◌, ℕ, ◌<◌, List, [], ◌∷◌, length, vec_items, refl, ap, ◌∙◌, arith}
 use Rattle.machine.specs.Hands.{Machine, hot_step}
 use Rattle.plain.specs.declared.entries.Entry.{Entry}
 use Rattle.plain.specs.Entries.{entries_of}

@@ -1,4 +1,4 @@
-use Rattle.std.proofs.Common.{◌≡◌, [], ◌∷◌, Some, vec_items, sym, refl, ap}
+use Rattle.std.proofs.Common.{[], ◌∷◌, Some, vec_items, sym, refl, ap}
 use Rattle.machine.specs.Entry as model
 use Rattle.machine.specs.Borrow.{marking}
 use Rattle.machine.proofs.Laws.{replaced_none}

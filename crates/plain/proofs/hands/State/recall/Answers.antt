@@ -1,4 +1,4 @@
-use Rattle.std.proofs.Common.{◌≡◌, [], is_some, None, vec_items, sym, refl, ap}
+use Rattle.std.proofs.Common.{[], is_some, None, vec_items, sym, refl, ap}
 use Rattle.plain.specs.declared.entries.Question.TheVariants.{Named}
 use Rattle.plain.proofs.Placing.{found_first, found_put}
 use Rattle.plain.proofs.hands.State.recall.Goals as goal

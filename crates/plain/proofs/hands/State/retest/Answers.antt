@@ -1,4 +1,4 @@
-use Rattle.std.proofs.Common.{◌≡◌, [], ◌∷◌, Some, vec_items, ap}
+use Rattle.std.proofs.Common.{[], ◌∷◌, Some, vec_items, ap}
 use Rattle.machine.specs.Hands.{retested}
 use Rattle.plain.specs.Entries.{entry_of}
 use Rattle.plain.specs.declared.entries.Question.TheVariants.{Free}

@@ -1,4 +1,4 @@
-use Rattle.std.proofs.Common.{◌≡◌, vec_items, sym, refl}
+use Rattle.std.proofs.Common.{vec_items, sym, refl}
 use Rattle.machine.specs.Hands.{tested}
 use Rattle.machine.specs.Entry as model
 use Rattle.machine.proofs.Laws.{replaced_none}

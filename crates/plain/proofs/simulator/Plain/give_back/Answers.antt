@@ -11,6 +11,6 @@ invariant_of-self g c =
       few = p.few;
       memory = subst (λ n. 2 * p.frames ≤ n) (sym c.give_back.ensures.memory) p.memory;
       facts =
-        closed_facts w p.frames None c.give_back.new.self
-            (subst (λ s. Mid p.frames None s) (sym c.give_back.ensures.step) (return_mid p.frames c.args.frame.0 (machine_of w p.state) (opened_facts w p.frames None p.state p.facts)));
+          closed_facts w p.frames None c.give_back.new.self
+          (subst (λ s. Mid p.frames None s) (sym c.give_back.ensures.step) (return_mid p.frames c.args.frame.0 (machine_of w p.state) (opened_facts w p.frames None p.state p.facts)));
     }

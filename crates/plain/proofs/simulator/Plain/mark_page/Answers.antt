@@ -11,6 +11,6 @@ invariant_of-self g c =
       few = p.few;
       memory = subst (λ n. 2 * p.frames ≤ n) (sym c.mark_page.ensures.memory) p.memory;
       facts =
-        closed_facts w p.frames None c.mark_page.new.self
-            (subst (λ s. Mid p.frames None s) (sym c.mark_page.ensures.step) (mark_mid p.frames c.args.frame.0 c.args.altered (machine_of w p.state) (opened_facts w p.frames None p.state p.facts)));
+          closed_facts w p.frames None c.mark_page.new.self
+          (subst (λ s. Mid p.frames None s) (sym c.mark_page.ensures.step) (mark_mid p.frames c.args.frame.0 c.args.altered (machine_of w p.state) (opened_facts w p.frames None p.state p.facts)));
     }

@@ -1,4 +1,4 @@
-use Rattle.std.proofs.Common.{◌-◌, [], None, sym, ap, subst}
+use Rattle.std.proofs.Common.{◌-◌, None, sym, subst}
 use Rattle.machine.specs.Facts.{Mid}
 use Rattle.machine.proofs.Calls.{opened_well}
 use Rattle.plain.specs.Entries.{entries_of}
@@ -11,6 +11,6 @@ invariant_of-result g c =
       few = c.if-frames-gt4096.false;
       memory = c.in-Ok.ensures.capacity;
       facts =
-        closed_facts w m None (record { ring = c.in-Ok.ring; cold = m - 1; used = 0 })
-            (subst (λ es. Mid m None (record { ring = entries_of w es; cold = m - 1; used = 0 })) (sym c.in-Ok.ensures.items) (opened_well m c.if-frames-lt2.false).mid);
+          closed_facts w m None (record { ring = c.in-Ok.ring; cold = m - 1; used = 0 })
+          (subst (λ es. Mid m None (record { ring = entries_of w es; cold = m - 1; used = 0 })) (sym c.in-Ok.ensures.items) (opened_well m c.if-frames-lt2.false).mid);
     }

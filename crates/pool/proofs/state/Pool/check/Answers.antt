@@ -1,4 +1,4 @@
-use Rattle.std.proofs.Common.{◌≡◌, ℕ, ◌<◌, ◌≤◌, ◌⊎◌, length, Some, subst, arith}
+use Rattle.std.proofs.Common.{◌≡◌, ℕ, length, Some, subst}
 use Rattle.promise.specs.State.{open_refusal}
 use Rattle.pool.proofs.Openings.{refused_1, refused_2}
 use Rattle.pool.proofs.state.Pool.check.Goals as goal
