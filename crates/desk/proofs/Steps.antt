@@ -1,19 +1,17 @@
 -- From a call to an order.
-use Rattle.std.proofs.Common.{◌≡◌, ℕ, ◌*◌, Bool, true, false, cond, ◌&&◌, eqb, List, [], ◌∷◌, length, Some, None, Option, sym, refl, ap, ◌∙◌, subst, ap₂, arith}
+use Rattle.std.proofs.Common.{◌≡◌, ℕ, ◌*◌, Bool, true, false, cond, ◌&&◌, eqb, List, [], ◌∷◌, length, Some, None, Ok, Err, Option, Result, sym, refl, ap, ◌∙◌, subst, ap₂, arith}
+use Rattle.std.specs.Result.{MatchResult}
 use Rattle.std.proofs.lemmas.Bool.{eqb-true, eq-eqb, and_parts, and_from}
 use Rattle.stores.specs.Meaning.{Meaning}
 use Rattle.stores.specs.declared.faults.Layer.{Layer}
-use Rattle.chains.specs.declared.cell.Cell.{Cell}
-use Rattle.rows.specs.declared.Entry.{Entry}
 use Rattle.machine.proofs.Counts.{none_some, differ}
-use Rattle.promise.specs.State.{State, page_size}
 use Rattle.promise.specs.Serves.{Request, Call, Answer, denied, by_pool, Serves}
 use Rattle.promise.specs.Book.{event}
 use Rattle.promise.specs.Desk as model
 use Rattle.promise.specs.Desk.{Desk, desk, request_of, handed, calling, call_with, lent_sizes, Plays, rests, idles, calls, Held}
 use Rattle.promise.proofs.Desks.{held_after}
 use Rattle.promise.proofs.Uses.{owed}
-use Rattle.pool.specs.Asked.{Holding, holding, state, sizes, sizes_of, Ready, Asked}
+use Rattle.pool.specs.Asked.{Holding, holding, state, sizes, sizes_of, Ready}
 use Rattle.pool.specs.Reading.{state_of, call_of}
 use Rattle.pool.specs.declared.state.Pool.{Pool}
 use Rattle.pool.specs.declared.state.Loan.{Loan}
@@ -23,7 +21,7 @@ use Rattle.desk.specs.declared.orders.Sizes.{Sizes}
 use Rattle.desk.specs.declared.orders.Order.{Order}
 use Rattle.desk.specs.declared.orders.Reply.{Reply}
 use Rattle.desk.specs.Reading.{ask_in, sizes_in, order_in, reply_in, hands_in, desk_of}
-use Rattle.desk.specs.Serving.{AtDesk, CalledBy, Called, Answered, Turned, Same, Ordered}
+use Rattle.desk.specs.Serving.{AtDesk, CalledBy, Called, Turned, Same, Untouched, Ordered}
 
 -- what an order comes to: the desk after it, and the play
 pub record Stepped {K : Type 0} (meaning : K → List ℕ) (o : Order K) (h : Holding K) (hands : List (Option Loan)) (r : Reply K) (after : Holding K) (left : List (Option Loan)) : Type 0 where
@@ -204,3 +202,33 @@ turned_away {K} meaning ask z h after hands left r k l u c = go (sizes_of h) ref
                     (subst (λ y. Serves (record { bytes = length h.frames; cells = y; request = q }) s (denied by_pool n) s) l g)),
               );
         }
+
+-- The same of a call that may want memory.
+
+-- an order that the desk's own memory is lent to
+pub own_order : {K E : Type 0} (meaning : K → List ℕ) (o : Order K) (h after : Holding K) (hands left : List (Option Loan)) (r : Result (Reply K) E) →
+    AtDesk meaning h hands → lent_sizes (state meaning h) (sizes_in o.lent) ≡ record { bytes = length h.frames; cells = length h.cells } →
+    length after.frames ≡ length h.frames → length after.cells ≡ length h.cells →
+    MatchResult r (λ x. Called meaning o.ask h hands x after left) (λ _. Same h hands after left) →
+    (AtDesk meaning after left) × MatchResult r (λ x. Ordered meaning o (desk_of meaning h hands) x (desk_of meaning after left)) (λ _. Same h hands after left)
+own_order meaning o h after hands left (Ok r) w z k l c = let s = stepped meaning o h hands r after left w z k l c in (s.at, s.made)
+own_order meaning o h after hands left (Err e) w z k l c = (same_at meaning h after hands left w c, c)
+
+-- an order that other memory is lent to
+pub other_order : {K E : Type 0} (meaning : K → List ℕ) (o : Order K) (z : Sizes) (h : Holding K) (pool : Pool) (store : Meaning) (hands left : List (Option Loan)) (r : Result (Reply K) E) →
+    AtDesk meaning h hands → o.lent ≡ Some z →
+    MatchResult r (λ x. Turned meaning o.ask z h.pool h.store hands x pool store left) (λ _. Untouched h.pool h.store hands pool store left) →
+    (AtDesk meaning (holding pool h.frames h.cells store) left)
+    × MatchResult r (λ x. Ordered meaning o (desk_of meaning h hands) x (desk_of meaning (holding pool h.frames h.cells store) left)) (λ _. Same h hands (holding pool h.frames h.cells store) left)
+other_order meaning o z h pool store hands left (Ok r) w e c = let s = turned_step meaning o z h hands r pool store left w e c in (s.at, s.made)
+other_order meaning o z h pool store hands left (Err x) w e c =
+    let s : Same h hands (holding pool h.frames h.cells store) left =
+    record { same = ap₂ (λ a b. holding a h.frames h.cells b) c.same_pool c.same_store; in_hands = c.in_hands } in (same_at meaning h (holding pool h.frames h.cells store) hands left w s, s)
+
+-- a call with other memory
+pub away : {K E : Type 0} (meaning : K → List ℕ) (ask : Ask K) (z : Sizes) (h after : Holding K) (hands left : List (Option Loan)) (r : Result (Reply K) E) →
+    length h.frames ≡ z.bytes → length h.cells ≡ z.cells → (sizes h.pool.frames h.store.size z.bytes z.cells ≡ None → ⊥) →
+    MatchResult r (λ x. Called meaning ask h hands x after left) (λ _. Same h hands after left) →
+    MatchResult r (λ x. Turned meaning ask z h.pool h.store hands x after.pool after.store left) (λ _. Untouched h.pool h.store hands after.pool after.store left)
+away meaning ask z h after hands left (Ok r) k l u c = turned_away meaning ask z h after hands left r k l u c
+away meaning ask z h after hands left (Err e) k l u c = record { same_pool = ap (λ y. y.pool) c.same; same_store = ap (λ y. y.store) c.same; in_hands = c.in_hands }

@@ -51,7 +51,7 @@ fn borrow<K: Key + Copy, S: Store<K>>(
     key: K,
 ) -> Result<Reply<K>, AllocError>
     requires { Supposed K.Key.meaning (holding pool.old frames.old cells.old (S.Store.meant store.old)) }
-    ensures* { λ r. ⌜ MatchResult r (λ r. Answered K.Key.meaning (to_borrow (K.Key.meaning key)) (Borrow key) (holding pool.old frames.old cells.old (S.Store.meant store.old)) hands.old.items r (holding pool.new frames.new cells.new (S.Store.meant store.new)) hands.new.items) (λ _. Same (holding pool.old frames.old cells.old (S.Store.meant store.old)) hands.old.items (holding pool.new frames.new cells.new (S.Store.meant store.new)) hands.new.items) ⌝ }
+    ensures { MatchResult result (λ r. Answered K.Key.meaning (to_borrow (K.Key.meaning key)) (Borrow key) (holding pool.old frames.old cells.old (S.Store.meant store.old)) hands.old.items r (holding pool.new frames.new cells.new (S.Store.meant store.new)) hands.new.items) (λ _. Same (holding pool.old frames.old cells.old (S.Store.meant store.old)) hands.old.items (holding pool.new frames.new cells.new (S.Store.meant store.new)) hands.new.items) }
 {
     hands.reserve(1)?;
     match pool.borrow(frames, cells, store, key) {
@@ -80,7 +80,7 @@ fn view<K: Key + Copy, S: Store<K>>(
     hand: usize,
 ) -> Result<Reply<K>, AllocError>
     requires { Supposed K.Key.meaning (holding pool.now frames.now cells.now (S.Store.meant store.now)) }
-    ensures* { λ r. ⌜ IfOk r (λ r. CalledBy K.Key.meaning (desk.request_of (desk.ask_view hand) (hands_in hands.now)) (View hand) (holding pool.now frames.now cells.now (S.Store.meant store.now)) hands.now r (holding pool.now frames.now cells.now (S.Store.meant store.now)) hands.now) ⌝ }
+    ensures { IfOk result (λ r. CalledBy K.Key.meaning (desk.request_of (desk.ask_view hand) (hands_in hands.now)) (View hand) (holding pool.now frames.now cells.now (S.Store.meant store.now)) hands.now r (holding pool.now frames.now cells.now (S.Store.meant store.now)) hands.now) }
 {
     if hand >= hands.len() {
         return Ok(Reply::NoLoan);
@@ -174,7 +174,7 @@ pub(crate) fn call<K: Key + Copy, S: Store<K>>(
     ask: &Ask<K>,
 ) -> Result<Reply<K>, AllocError>
     requires { Supposed K.Key.meaning (holding pool.old frames.old cells.old (S.Store.meant store.old)) }
-    ensures* { λ r. ⌜ MatchResult r (λ r. Called K.Key.meaning ask.now (holding pool.old frames.old cells.old (S.Store.meant store.old)) hands.old.items r (holding pool.new frames.new cells.new (S.Store.meant store.new)) hands.new.items) (λ _. Same (holding pool.old frames.old cells.old (S.Store.meant store.old)) hands.old.items (holding pool.new frames.new cells.new (S.Store.meant store.new)) hands.new.items) ⌝ }
+    ensures { MatchResult result (λ r. Called K.Key.meaning ask.now (holding pool.old frames.old cells.old (S.Store.meant store.old)) hands.old.items r (holding pool.new frames.new cells.new (S.Store.meant store.new)) hands.new.items) (λ _. Same (holding pool.old frames.old cells.old (S.Store.meant store.old)) hands.old.items (holding pool.new frames.new cells.new (S.Store.meant store.new)) hands.new.items) }
 {
     match ask {
         Ask::Borrow(key) => borrow(pool, frames, cells, store, hands, *key),

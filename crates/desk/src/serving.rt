@@ -42,7 +42,7 @@ fn call_with<K: Key + Copy, S: Store<K>>(
     lent: Sizes,
 ) -> Result<Reply<K>, AllocError>
     requires { sizes pool.old.frames (S.Store.meant store.old).size lent.bytes lent.cells ≢ None }
-    ensures* { λ r. ⌜ MatchResult r (λ r. Turned K.Key.meaning ask.now lent pool.old (S.Store.meant store.old) hands.old.items r pool.new (S.Store.meant store.new) hands.new.items) (λ _. Untouched pool.old (S.Store.meant store.old) hands.old.items pool.new (S.Store.meant store.new) hands.new.items) ⌝ }
+    ensures { MatchResult result (λ r. Turned K.Key.meaning ask.now lent pool.old (S.Store.meant store.old) hands.old.items r pool.new (S.Store.meant store.new) hands.new.items) (λ _. Untouched pool.old (S.Store.meant store.old) hands.old.items pool.new (S.Store.meant store.new) hands.new.items) }
 {
     let mut frames = vec![in heap; 0u8; lent.bytes]?;
     let mut cells = blank_cells::<K>(heap, lent.cells)?;
@@ -69,7 +69,7 @@ pub fn serve<K: Key + Copy, S: Store<K>>(
 ) -> Result<Reply<K>, AllocError>
     requires { AtDesk K.Key.meaning (holding pool.old frames.old cells.old (S.Store.meant store.old)) hands.old.items }
     ensures at { AtDesk K.Key.meaning (holding pool.new frames.new cells.new (S.Store.meant store.new)) hands.new.items }
-    ensures* made { λ r. ⌜ MatchResult r (λ r. Ordered K.Key.meaning order.now (desk_of K.Key.meaning (holding pool.old frames.old cells.old (S.Store.meant store.old)) hands.old.items) r (desk_of K.Key.meaning (holding pool.new frames.new cells.new (S.Store.meant store.new)) hands.new.items)) (λ _. Same (holding pool.old frames.old cells.old (S.Store.meant store.old)) hands.old.items (holding pool.new frames.new cells.new (S.Store.meant store.new)) hands.new.items) ⌝ }
+    ensures made { MatchResult result (λ r. Ordered K.Key.meaning order.now (desk_of K.Key.meaning (holding pool.old frames.old cells.old (S.Store.meant store.old)) hands.old.items) r (desk_of K.Key.meaning (holding pool.new frames.new cells.new (S.Store.meant store.new)) hands.new.items)) (λ _. Same (holding pool.old frames.old cells.old (S.Store.meant store.old)) hands.old.items (holding pool.new frames.new cells.new (S.Store.meant store.new)) hands.new.items) }
 {
     let Some(lent) = order.lent else {
         return calling::call(heap, pool, frames, cells, store, hands, &order.ask);

@@ -1,10 +1,9 @@
-use Rattle.std.proofs.Common.{◌≡◌, ℕ, List, length, None, vec_items, sym, refl, ap, ◌∙◌, subst, arith, length-set}
+use Rattle.std.proofs.Common.{ℕ, List, vec_items, refl, subst}
 use Rattle.promise.specs.Serves as model
 use Rattle.pool.specs.Asked.{holding, Asked}
 use Rattle.pool.specs.Faults.{denial}
 use Rattle.pool.specs.Reading.{loan_in}
-use Rattle.desk.specs.Reading.{hands_in}
-use Rattle.desk.proofs.Handling.{none_past, set_none, set_back, set_same, some_below, hands_less, called_none, called_some}
+use Rattle.desk.proofs.Handling.{none_past, called_none, called_some}
 use Rattle.desk.proofs.calling.alter.Goals as goal
 
 pub returns-then-hand-hands : goal.returns-then-hand-hands

@@ -1,4 +1,4 @@
-use Rattle.std.proofs.Common.{◌≡◌, List, [], ◌∷◌, ◌++◌, Some, Option, sym, refl, ap, ◌∙◌}
+use Rattle.std.proofs.Common.{List, [], ◌∷◌, ◌++◌, Some, Option, ap, ◌∙◌}
 use Rattle.pool.specs.declared.state.Loan.{Loan}
 use Rattle.promise.specs.Serves.{lends}
 use Rattle.pool.specs.Reading.{loan_in, report_in}

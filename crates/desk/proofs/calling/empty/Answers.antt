@@ -1,6 +1,5 @@
 use Rattle.std.proofs.Common.{None, vec_items, sym, arith}
 use Rattle.desk.proofs.Handling.{none_past, set_past}
-use Rattle.pool.specs.declared.state.Loan.{Loan}
 use Rattle.desk.proofs.calling.empty.Goals as goal
 
 pub returns-then-hand-len : goal.returns-then-hand-len

@@ -1,11 +1,9 @@
-use Rattle.std.proofs.Common.{◌≡◌, ℕ, List, length, set, Some, None, vec_items, Option, sym, refl, ap, ◌∙◌, subst, arith, length-set}
+use Rattle.std.proofs.Common.{List, length, set, Some, None, vec_items, Option, sym, refl, ap, ◌∙◌, arith, length-set}
 use Rattle.pool.specs.declared.state.Loan.{Loan}
 use Rattle.promise.specs.Serves as model
-use Rattle.pool.specs.Asked.{holding, Asked}
 use Rattle.pool.specs.Faults.{denial}
-use Rattle.pool.specs.Reading.{loan_in}
 use Rattle.desk.specs.Reading.{hands_in}
-use Rattle.desk.proofs.Handling.{none_past, set_none, set_back, set_same, some_below, hands_less, called_none, called_some}
+use Rattle.desk.proofs.Handling.{set_none, set_back, set_same, some_below, hands_less, called_none, called_some}
 use Rattle.desk.proofs.calling.give_back.Goals as goal
 
 pub refill-requires : goal.refill-requires
