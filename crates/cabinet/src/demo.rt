@@ -1,6 +1,6 @@
 //! The demonstration: a bundle of two deliveries and a work file, from opening to refusals.
 
-use crate::machine;
+use crate::simulate;
 use anyhow::anyhow;
 use bundles::Bundle;
 use console::{RefusalLine, hex, page_text};
@@ -41,9 +41,9 @@ pub(crate) fn run(rt: &HostRuntime, heap: Global) -> anyhow::Result<()> {
 
 fn list_machine(rt: &HostRuntime, heap: Global) -> anyhow::Result<()> {
     rt.println("the list machine with 3 frames, each key borrowed and returned:")?;
-    machine::sample(rt, heap, 3, "1 2 3 1 4 2 5 1 4")?;
+    simulate::sample(rt, heap, 3, "1 2 3 1 4 2 5 1 4")?;
     rt.println("with 2 frames, 1 and 2 kept, then 2 returned:")?;
-    machine::sample(rt, heap, 2, "1+ 2+ 3 -2 3")
+    simulate::sample(rt, heap, 2, "1+ 2+ 3 -2 3")
 }
 
 fn sections(rt: &HostRuntime, heap: Global) -> anyhow::Result<()> {

@@ -3,7 +3,7 @@
 #![tactic(auto)]
 
 mod demo;
-mod machine;
+mod simulate;
 
 use anyhow::anyhow;
 use std::alloc::Global;
@@ -49,7 +49,7 @@ fn run(rt: &HostRuntime, heap: Global) -> anyhow::Result<()> {
             Ok(())
         }
         "bundle" => bundle(rt, heap, words.as_slice()),
-        "machine" => machine::run(rt, heap, &words.as_slice()[1..]),
+        "machine" => simulate::run(rt, heap, &words.as_slice()[1..]),
         other => {
             rt.print(USAGE)?;
             Err(anyhow!("there is no word {other}"))

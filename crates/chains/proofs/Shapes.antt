@@ -1,7 +1,7 @@
 -- One chain is changed: what that does to the shape, and that every chain is still sound.
 use Rattle.std.proofs.Common.{◌≡◌, ℕ, zero, suc, ◌<◌, Bool, true, false, cond, eqb, List, [], ◌∷◌, ◌++◌, length, get_or, set, Some, None, Option, sym, refl, ap, ◌∙◌, subst, inl, inr, arith}
 use mathlib.Core.Path.{fun_ext}
-use Rattle.std.specs.List.{AllByRecursion as All}
+use Rattle.std.specs.List.{AllByRecursion}
 use Rattle.std.proofs.lemmas.List.{get_or-set_same, get_or-set_other, get_or_past, append-nil}
 use Rattle.std.proofs.lemmas.Bool.{cases_eq, cases_lt, eq-eqb, ne_eqb, cond-true, cond-false, eqb-true, eqb-false}
 use Rattle.chains.specs.Cells.{place, entry_of, slot_of, vacant, Framed, Stored, Slotted}
@@ -103,7 +103,7 @@ module _ {T : Type 0} (c : List (Cell T)) (cs : Chains) (k : Intact c cs) (w : C
   unfolding shape_of Intact Sound
   order_apart = (k w).apart
 
-  pub order_inside : All (λ j. j < (shape_of c cs).size) ((shape_of c cs).order w)
+  pub order_inside : AllByRecursion (λ j. j < (shape_of c cs).size) ((shape_of c cs).order w)
   unfolding shape_of Intact Sound
   order_inside = (k w).within
 

@@ -1,7 +1,7 @@
 -- What `push_head` and `unlink` do to a chain.
 use Rattle.std.proofs.Common.{◌≡◌, ℕ, suc, ◌+◌, ◌-◌, ◌<◌, cond, eqb, ◌≢◌, List, [], ◌∷◌, ◌++◌, length, take, drop, sym, refl, ap, ◌∙◌, subst, arith}
 use lib.Seq.{split_at}
-use Rattle.std.specs.List.{ContainsAt as Has, AllByRecursion as All}
+use Rattle.std.specs.List.{ContainsAt, AllByRecursion}
 use Rattle.std.proofs.lemmas.List.{append-nil, length_push, length-append}
 use Rattle.std.proofs.ByRecursion.{All-push, All-weaker, all-has}
 use Rattle.std.proofs.lemmas.Bool.{ne_eqb, eq-eqb, cond-true, cond-false}
@@ -28,11 +28,11 @@ module _ {T : Type 0} (c : List (Cell T)) (w : Chain) (ch : Ends) where
   unfolding Sound
   sound_from order k = subst (λ o. Chained c w ch o) (sym (order_is order k)) k
 
-pub all_last : (P : ℕ → Type 0) (x : ℕ) (xs : List ℕ) → P x → All P xs → P (last_of x xs)
+pub all_last : (P : ℕ → Type 0) (x : ℕ) (xs : List ℕ) → P x → AllByRecursion P xs → P (last_of x xs)
 all_last P x [] h a = h
 all_last P x (y ∷ ys) h a = all_last P y ys a.0 a.1
 
-pub all_first : (P : ℕ → Type 0) (x : ℕ) (xs : List ℕ) → P x → All P xs → P (first_of x xs)
+pub all_first : (P : ℕ → Type 0) (x : ℕ) (xs : List ℕ) → P x → AllByRecursion P xs → P (first_of x xs)
 all_first P x [] h a = h
 all_first P x (y ∷ ys) h a = a.0
 
@@ -191,18 +191,18 @@ unlinked_from c c' w ch i around t h xs zs k ne pe tn tp s te he =
       apart = apart_cut xs i.0 zs k.apart;
     }
 
-pub has_split : (o : List ℕ) (i : ℕ) → Has o i → (xs : List ℕ) × (zs : List ℕ) × (o ≡ xs ++ i ∷ zs)
+pub has_split : (o : List ℕ) (i : ℕ) → ContainsAt o i → (xs : List ℕ) × (zs : List ℕ) × (o ≡ xs ++ i ∷ zs)
 has_split o i h = (
   take h.0 o,
   drop (suc h.0) o,
   split_at o h.0 0 h.1 ∙ ap (λ x. take h.0 o ++ x ∷ drop (suc h.0) o) (h.2 0),
 )
 
-all_left : (P : ℕ → Type 0) (xs ys : List ℕ) → All P (xs ++ ys) → All P xs
+all_left : (P : ℕ → Type 0) (xs ys : List ℕ) → AllByRecursion P (xs ++ ys) → AllByRecursion P xs
 all_left P [] ys a = tt
 all_left P (x ∷ xs) ys a = (a.0, all_left P xs ys a.1)
 
-all_right : (P : ℕ → Type 0) (xs ys : List ℕ) → All P (xs ++ ys) → All P ys
+all_right : (P : ℕ → Type 0) (xs ys : List ℕ) → AllByRecursion P (xs ++ ys) → AllByRecursion P ys
 all_right P [] ys a = a
 all_right P (x ∷ xs) ys a = all_right P xs ys a.1
 
@@ -212,17 +212,17 @@ module _ (P : ℕ → Type 0) (n p : ℕ → ℕ) where
   next_at a [] i z zs f = f.2.0
   next_at a (x ∷ xs) i z zs f = next_at x xs i z zs f.2
 
-  next_first : (a : ℕ) (xs : List ℕ) (i : ℕ) → From n p a (xs ++ i ∷ []) → All P (xs ++ i ∷ []) → P (n a)
+  next_first : (a : ℕ) (xs : List ℕ) (i : ℕ) → From n p a (xs ++ i ∷ []) → AllByRecursion P (xs ++ i ∷ []) → P (n a)
   next_first a [] i f h = subst P (sym f.0) h.0
   next_first a (x ∷ xs) i f h = subst P (sym f.0) h.0
 
   next_in : (hd : ℕ) (xs : List ℕ) (i : ℕ) (zs : List ℕ) → last_of hd (xs ++ i ∷ zs) ≡ hd → From n p hd (xs ++ i ∷ zs)
-      → All P (xs ++ i ∷ zs) → P (n i)
+      → AllByRecursion P (xs ++ i ∷ zs) → P (n i)
   next_in hd xs i [] l f h = subst (λ a. P (n a)) (sym l ∙ last_mid hd xs i []) (next_first hd xs i f h)
   next_in hd xs i (z ∷ zs) l f h = subst P (sym (next_at hd xs i z zs f)) (all_right P xs (i ∷ z ∷ zs) h).1.0
 
   prev_in : (hd : ℕ) (xs : List ℕ) (i : ℕ) (zs : List ℕ) → last_of hd (xs ++ i ∷ zs) ≡ hd → From n p hd (xs ++ i ∷ zs)
-      → All P (xs ++ i ∷ zs) → P (p i)
+      → AllByRecursion P (xs ++ i ∷ zs) → P (p i)
   prev_in hd xs i zs l f h =
       let r = all_right P xs (i ∷ zs) h in
       let d : P hd = subst P (sym (last_mid hd xs i zs) ∙ l) (all_last P i zs r.0 r.1) in
@@ -235,12 +235,12 @@ pub record Neighbours {T : Type 0} (c : List (Cell T)) (w : Chain) (ch : Ends) (
   pub back : prev_of c w i < length c
   pub some : 0 < ch.len
 
-pub neighbours : {T : Type 0} (c : List (Cell T)) (w : Chain) (ch : Ends) (i : ℕ) (o : List ℕ) → Chained c w ch o → Has o i → Neighbours c w ch i
+pub neighbours : {T : Type 0} (c : List (Cell T)) (w : Chain) (ch : Ends) (i : ℕ) (o : List ℕ) → Chained c w ch o → ContainsAt o i → Neighbours c w ch i
 neighbours c w ch i o k h =
     let s = has_split o i h in
     let l = subst (λ o. last_of ch.head.0 o ≡ ch.head.0) s.2 k.last in
     let f = subst (λ o. From (next_of c w) (prev_of c w) ch.head.0 o) s.2 k.round in
-    let a = subst (λ o. All (λ j. j < length c) o) s.2 k.within in
+    let a = subst (λ o. AllByRecursion (λ j. j < length c) o) s.2 k.within in
     record {
       here = all-has (λ j. j < length c) o i k.within h;
       ahead = next_in (λ j. j < length c) (next_of c w) (prev_of c w) ch.head.0 s.0 i s.1 l f a;
@@ -249,7 +249,7 @@ neighbours c w ch i o k h =
     }
 
 pub unlinked : {T : Type 0} (c c' : List (Cell T)) (w : Chain) (ch : Ends) (i : CellNo) (around : Links) (t h : CellNo) (o : List ℕ)
-    → Chained c w ch o → Has o i.0
+    → Chained c w ch o → ContainsAt o i.0
     → around.next.0 ≡ next_of c w i.0 → around.prev.0 ≡ prev_of c w i.0
     → Put (next_of c w) (next_of c' w) around.prev.0 around.next.0 → Put (prev_of c w) (prev_of c' w) around.next.0 around.prev.0
     → length c' ≡ length c

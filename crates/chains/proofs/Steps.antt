@@ -1,6 +1,6 @@
 -- How a caller goes through a chain, and what it knows of the ends.
 use Rattle.std.proofs.Common.{◌≡◌, ℕ, zero, suc, ◌+◌, ◌<◌, List, [], ◌∷◌, ◌++◌, length, get_or, refl, ap, subst, add-one, arith}
-use Rattle.std.specs.List.{ContainsAt as Has}
+use Rattle.std.specs.List.{ContainsAt}
 use Rattle.std.proofs.ByRecursion.{All-get_or, has_get_or, All-push}
 use Rattle.std.proofs.lemmas.List.{length_push}
 use Rattle.chains.specs.Cells.{next_of}
@@ -38,8 +38,8 @@ module _ {T : Type 0} (c : List (Cell T)) (w : Chain) (ch : Ends) where
   unfolding order_of
   order_next k l = rw add-one (walk_next (next_of c w) ch.tail.0 ch.len k (omega arith))
 
-  pub has_tail : 0 < ch.len → Has (order_of c w ch) ch.tail.0
-  has_tail l = subst (λ x. Has (order_of c w ch) x) (order_tail l) (has_get_or (order_of c w ch) 0 0 (omega (arith, order_length)))
+  pub has_tail : 0 < ch.len → ContainsAt (order_of c w ch) ch.tail.0
+  has_tail l = subst (λ x. ContainsAt (order_of c w ch) x) (order_tail l) (has_get_or (order_of c w ch) 0 0 (omega (arith, order_length)))
 
   pub order_within : Sound c w ch → (k : ℕ) → k < ch.len → get_or (order_of c w ch) k 0 < length c
   unfolding Sound

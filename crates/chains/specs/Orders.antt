@@ -5,7 +5,7 @@
 --   Chained            that links go round a list of cells
 --   order_of, Sound     the cells of a chain, from tail to head; that its links go round them
 use Rattle.std.specs.Prelude.{◌≡◌, ℕ, zero, suc, ◌<◌, cond, ◌≢◌, List, [], ◌∷◌, length, ◌==◌}
-use Rattle.std.specs.List.{AllByRecursion as All}
+use Rattle.std.specs.List.{AllByRecursion}
 use Rattle.chains.specs.Cells.{next_of, prev_of}
 use Rattle.chains.specs.declared.cell.Cell.{Cell}
 use Rattle.chains.specs.declared.cell.Chain.{Chain}
@@ -26,10 +26,10 @@ first_of d (x ∷ xs) = x
 
 abbrev pub Apart : List ℕ → Type 0
 Apart [] = Unit {0}
-Apart (x ∷ xs) = All (λ y. y ≢ x) xs × Apart xs
+Apart (x ∷ xs) = AllByRecursion (λ y. y ≢ x) xs × Apart xs
 
 abbrev pub Misses : ℕ → List ℕ → Type 0
-Misses x xs = All (λ y. y ≢ x) xs
+Misses x xs = AllByRecursion (λ y. y ≢ x) xs
 
 -- the list without x
 abbrev pub without : ℕ → List ℕ → List ℕ
@@ -46,7 +46,7 @@ pub record Chained {T : Type 0} (cells : List (Cell T)) (w : Chain) (ch : Ends) 
   pub first : first_of ch.tail.0 order ≡ ch.tail.0
   pub last : last_of ch.head.0 order ≡ ch.head.0
   pub round : From (next_of cells w) (prev_of cells w) ch.head.0 order
-  pub within : All (λ j. j < length cells) order
+  pub within : AllByRecursion (λ j. j < length cells) order
   pub apart : Apart order
 
 -- the cells of a chain, from tail to head

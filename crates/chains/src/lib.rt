@@ -11,7 +11,7 @@ mod directory;
 mod link;
 
 ghost use Rattle.std.specs.Prelude.{◌≡◌, ℕ, ◌+◌, ◌<◌, [], ◌∷◌, length, MatchBool, slice_index, slice_set};
-ghost use Rattle.std.specs.List.{ContainsAt as Has};
+ghost use Rattle.std.specs.List.{ContainsAt};
 ghost use Rattle.chains.specs.Orders.{Misses};
 ghost use Rattle.chains.specs.Cells.{place};
 ghost use Rattle.chains.specs.Shape.{shape_of, Intact, ends_at, pushed, unlinked, turned, stored, slotted, followed, stayed, head_of, name_of};
@@ -107,7 +107,7 @@ pub fn push<T>(cells: &mut [Cell<T>], chains: &mut Chains, which: Chain, i: Cell
 /// A cell leaves a chain.
 pub fn unlink<T>(cells: &mut [Cell<T>], chains: &mut Chains, which: Chain, i: CellNo)
     requires intact { Intact cells.old chains.old }
-    requires there { Has ((shape_of cells.old chains.old).order which) i.0 }
+    requires there { ContainsAt ((shape_of cells.old chains.old).order which) i.0 }
     ensures intact { Intact cells.new chains.new }
     ensures shape { shape_of cells.new chains.new ≡ unlinked which i.0 (shape_of cells.old chains.old) }
 {
@@ -119,7 +119,7 @@ pub fn unlink<T>(cells: &mut [Cell<T>], chains: &mut Chains, which: Chain, i: Ce
 /// A cell of a chain goes to its head.
 pub fn to_head<T>(cells: &mut [Cell<T>], chains: &mut Chains, which: Chain, i: CellNo)
     requires intact { Intact cells.old chains.old }
-    requires there { Has ((shape_of cells.old chains.old).order which) i.0 }
+    requires there { ContainsAt ((shape_of cells.old chains.old).order which) i.0 }
     ensures intact { Intact cells.new chains.new }
     ensures shape { shape_of cells.new chains.new ≡ turned which i.0 (shape_of cells.old chains.old) }
 {
@@ -138,7 +138,7 @@ pub fn follow<T>(
 )
     requires intact { Intact cells.old chains.old }
     requires cell { i.0 < (shape_of cells.old chains.old).size }
-    requires member { MatchBool was (Has ((shape_of cells.old chains.old).order which) i.0) (Misses i.0 ((shape_of cells.old chains.old).order which)) }
+    requires member { MatchBool was (ContainsAt ((shape_of cells.old chains.old).order which) i.0) (Misses i.0 ((shape_of cells.old chains.old).order which)) }
     ensures intact { Intact cells.new chains.new }
     ensures shape { shape_of cells.new chains.new ≡ followed which i.0 is (shape_of cells.old chains.old) }
 {
@@ -160,7 +160,7 @@ pub fn keep<T>(
     is: bool,
 )
     requires intact { Intact cells.old chains.old }
-    requires member { MatchBool was (Has ((shape_of cells.old chains.old).order which) i.0) (Misses i.0 ((shape_of cells.old chains.old).order which)) }
+    requires member { MatchBool was (ContainsAt ((shape_of cells.old chains.old).order which) i.0) (Misses i.0 ((shape_of cells.old chains.old).order which)) }
     ensures intact { Intact cells.new chains.new }
     ensures shape { shape_of cells.new chains.new ≡ stayed which i.0 is (shape_of cells.old chains.old) }
 {

@@ -2,7 +2,7 @@
 //! The chain's order is a walk along `next` from the tail, so it is a function of the cells.
 
 ghost use Rattle.std.specs.Prelude.{◌≡◌, ℕ, ◌<◌, ◌≢◌, [], ◌∷◌, ◌++◌, length, if◌then◌else◌, ◌==◌, nat_eq};
-ghost use Rattle.std.specs.List.{ContainsAt as Has};
+ghost use Rattle.std.specs.List.{ContainsAt};
 ghost use Rattle.chains.specs.Cells.{next_of, prev_of, entry_of, Put, Framed, Stored, links_at};
 ghost use Rattle.chains.specs.Orders.{Sound, order_of, Misses, without};
 
@@ -145,7 +145,7 @@ pub(crate) fn push_head<T>(cells: &mut [Cell<T>], chain: &mut Ends, which: Chain
 /// A cell of the chain leaves it.
 pub(crate) fn unlink<T>(cells: &mut [Cell<T>], chain: &mut Ends, which: Chain, i: CellNo)
     requires sound { Sound cells.old which chain.old }
-    requires there { Has (order_of cells.old which chain.old) i.0 }
+    requires there { ContainsAt (order_of cells.old which chain.old) i.0 }
     ensures sound { Sound cells.new which chain.new }
     ensures order { order_of cells.new which chain.new ≡ without i.0 (order_of cells.old which chain.old) }
     ensures others { Framed cells.old cells.new which }

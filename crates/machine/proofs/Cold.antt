@@ -1,6 +1,6 @@
 -- The cold run: at most one result, it ends, and what it leaves.
 use Rattle.std.proofs.Common.{◌≡◌, ℕ, zero, suc, ◌+◌, ◌-◌, ◌<◌, ◌≤◌, Bool, true, false, cond, not, ◌&&◌, eqb, List, [], ◌∷◌, is_some, Some, None, Option, sym, refl, ap, ◌∙◌, subst, ap₂, arith}
-use Rattle.std.specs.List.{AllByRecursion as All}
+use Rattle.std.specs.List.{AllByRecursion}
 use Rattle.std.proofs.lemmas.Bool.Decides.{nat_tests}
 use Rattle.machine.specs.Entry.{Entry, is_hot, has_bit, marked, resident, remembered, idle, free, named, in_frame, lies_in, on_page, one, count, first}
 use Rattle.machine.specs.Hands.{Machine, promoted, retested, evicted, left, hot_step, promote, retest, evict, HotRun, Steps, steps, plus, ColdRun, no_candidate, promotes, retests, evicts}
@@ -73,10 +73,10 @@ evict_mid m f s e w h k =
       cold_high = w.cold_high;
     }
   where
-    left_facts : (e : Entry) → record { propers : All Proper (left e); lies : (i : ℕ) → count (lies_in i) (left e) ≡ 0; residents : count resident (left e) ≡ 0; remembereds : count remembered (left e) ≤ 1 }
+    left_facts : (e : Entry) → record { propers : AllByRecursion Proper (left e); lies : (i : ℕ) → count (lies_in i) (left e) ≡ 0; residents : count resident (left e) ≡ 0; remembereds : count remembered (left e) ≤ 1 }
     left_facts e = go e.test
       where
-        go : (b : Bool) → let l : List Entry = cond b (evicted e ∷ []) [] in record { propers : All Proper l; lies : (i : ℕ) → count (lies_in i) l ≡ 0; residents : count resident l ≡ 0; remembereds : count remembered l ≤ 1 }
+        go : (b : Bool) → let l : List Entry = cond b (evicted e ∷ []) [] in record { propers : AllByRecursion Proper l; lies : (i : ℕ) → count (lies_in i) l ≡ 0; residents : count resident l ≡ 0; remembereds : count remembered l ≤ 1 }
         go true = record { propers = (record { hot_unmarked = λ j. differ false j refl; hot_resident = λ j. differ false j refl; marked_away = λ _. refl; still_away = λ _. refl; unlent_away = λ _. refl; same_away = λ _. refl; loans_fit = omega arith }, tt); lies = λ i. omega arith; residents = omega arith; remembereds = omega arith }
         go false = record { propers = tt; lies = λ i. omega arith; residents = omega arith; remembereds = omega arith }
 

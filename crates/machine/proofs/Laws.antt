@@ -1,6 +1,6 @@
 -- The laws of the calls: returns, lists of calls, one answer to each borrow and no more, and what an 11 means.
 use Rattle.std.proofs.Common.{◌≡◌, ℕ, suc, ◌+◌, ◌*◌, ◌^◌, ◌<◌, ◌≤◌, Bool, true, false, cond, not, ◌&&◌, eqb, ltb, ◌⊎◌, List, [], ◌∷◌, ◌++◌, length, is_some, Some, None, Option, sym, refl, ap, ◌∙◌, subst, subst₂, inl, inr, mul-le-mul, arith}
-use Rattle.std.specs.List.{AllByRecursion as All}
+use Rattle.std.specs.List.{AllByRecursion}
 use Rattle.std.proofs.lemmas.Bool.{ltb-false, le-ltb, eqb-true, eq-eqb, and_parts, and_from}
 use Rattle.keys.specs.Same.{same_list}
 use Rattle.keys.proofs.Compare.{same_list_true, same_list_same}
@@ -412,7 +412,7 @@ lay_some m f s v w h c =
 abbrev Anew : List ℕ → Machine → Type 0
 Anew k s = count (on_page (λ i g l a. same_list k i)) s.ring ≡ 0
 
-page-named : (k : List ℕ) (xs : List Entry) → All Proper xs → count (on_page (λ i g l a. same_list k i)) xs ≤ count (named k) xs
+page-named : (k : List ℕ) (xs : List Entry) → AllByRecursion Proper xs → count (on_page (λ i g l a. same_list k i)) xs ≤ count (named k) xs
 page-named k xs a = count_weaker Proper (on_page (λ i g l a. same_list k i)) (named k) (λ e p h. go e e.frame h) xs a
   where
     go : (e : Entry) (o : Option ℕ) → in_frame (λ f. same_list k e.key) o ≡ true → same_list k e.key ≡ true

@@ -1,6 +1,6 @@
 -- One move of a hand takes one entry off the list and puts other entries (one, or none) somewhere into it.
 use Rattle.std.proofs.Common.{◌≡◌, ℕ, ◌+◌, ◌<◌, ◌≤◌, Bool, true, false, List, [], ◌∷◌, ◌++◌, Some, None, Option, refl, arith}
-use Rattle.std.specs.List.{AllByRecursion as All}
+use Rattle.std.specs.List.{AllByRecursion}
 use Rattle.std.proofs.ByRecursion.{All-append}
 use Rattle.std.proofs.lemmas.Bool.Decides.{nat_tests}
 use Rattle.machine.specs.Entry.{Entry, resident, remembered, named, lies_in, one, count, first, replaced, without}
@@ -11,7 +11,7 @@ use Rattle.machine.proofs.Counts.{differ, count-++, count-replaced, first_has, a
 -- ys is xs with the entries l for the entry e
 pub record Moved (e : Entry) (l xs ys : List Entry) : Type 0 where
   pub counts : (q : Entry → Bool) → count q ys + one (q e) ≡ count q xs + count q l
-  pub propers : All Proper xs → (Proper e → All Proper l) → All Proper ys
+  pub propers : AllByRecursion Proper xs → (Proper e → AllByRecursion Proper l) → AllByRecursion Proper ys
 
 pub moved_tail : (e : Entry) (l rest : List Entry) → Moved e l (e ∷ rest) (rest ++ l)
 moved_tail e l rest = record { counts = λ q. let h = count-++ q rest l in omega arith; propers = λ a b. All-append Proper rest l a.1 (b a.0) }
@@ -27,7 +27,7 @@ moved_head p l xs e h = record {
 
 -- l may stand for e: the standing facts do not suffer
 pub record Stands (e : Entry) (l : List Entry) : Type 0 where
-  pub propers : Proper e → All Proper l
+  pub propers : Proper e → AllByRecursion Proper l
   pub nameds : (k : List ℕ) → count (named k) l ≤ one (named k e)
   pub lies : (f : ℕ) → count (lies_in f) l ≡ one (lies_in f e)
   pub residents : count resident l ≡ one (resident e)

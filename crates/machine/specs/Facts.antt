@@ -3,7 +3,7 @@
 --   Mid      what holds at every moment, also inside a call
 --   Well     what holds before and after each call
 use Rattle.std.specs.Prelude.{◌≡◌, ℕ, ◌+◌, ◌-◌, ◌<◌, ◌≤◌, true, false, List, Some, None, Option, nat_eq, nat_lt}
-use Rattle.std.specs.List.{AllByRecursion as All}
+use Rattle.std.specs.List.{AllByRecursion}
 use Rattle.machine.specs.Entry.{Entry, is_hot, resident, remembered, named, lies_in, one, count, in_frame}
 use Rattle.machine.specs.Hands.{Machine}
 
@@ -24,7 +24,7 @@ gaps None = 0
 gaps (Some g) = 1
 
 pub record Mid (m : ℕ) (gap : Option ℕ) (s : Machine) : Type 0 where
-  pub entries : All Proper s.ring
+  pub entries : AllByRecursion Proper s.ring
   -- one page in each frame below u but the gap, and none in another
   pub frames : (f : ℕ) → count (lies_in f) s.ring + one (in_frame (nat_eq f) gap) ≡ one (nat_lt f s.used)
   pub pages : count resident s.ring + gaps gap ≡ s.used  -- as many pages as frames in use

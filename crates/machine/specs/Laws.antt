@@ -8,7 +8,7 @@
 --   Turnover, Pages   7. what becomes of the pages in a borrow
 --   Exact       8. the evaluator gives exactly what the relations say
 use Rattle.std.specs.Prelude.{◌≡◌, ℕ, ◌+◌, ◌*◌, ◌^◌, ◌<◌, ◌≤◌, Bool, true, false, ◌&&◌, ◌⊎◌, List, length, Some, None, Option}
-use Rattle.std.specs.List.{AllByRecursion as All}
+use Rattle.std.specs.List.{AllByRecursion}
 use Rattle.keys.specs.Same.{same_list}
 use Rattle.machine.specs.Entry.{Entry, resident, remembered, named, idle, on_page, one, one_of, count, first, free, marked, has_bit}
 use Rattle.machine.specs.Hands.{Machine, opened, HotRun, TestRun, Steps, ColdRun, hot_step, test_step, promote, retest, evict}
@@ -89,7 +89,7 @@ pub record Paid : Type 0 where
 
 -- 6. Each lettered row of the sample runs holds.
 abbrev pub Table : Type 0
-Table = All Holds table
+Table = AllByRecursion Holds table
 
 -- 7. What becomes of the pages in a borrow of key k that is granted with frame f and report r. One entry comes into the
 -- frame (after a hit it is the old one, with one loan more), and at most one goes out of it; whatever can be said of the

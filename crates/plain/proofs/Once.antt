@@ -5,7 +5,7 @@ use mathlib.Core.HLevel.{→_prop}
 use mathlib.Core.Logic.{∥∥₁_elim}
 use native.Mathlib.Nat.{ℕ_set}
 use native.Mathlib.Bridge.{le_prop}
-use Rattle.std.specs.List.{AllByRecursion as All}
+use Rattle.std.specs.List.{AllByRecursion}
 use Rattle.machine.specs.Entry as model
 use Rattle.machine.specs.Hands.{Machine}
 use Rattle.machine.specs.Facts.{Proper, Mid}
@@ -25,7 +25,7 @@ proper_once e x y = λ i. record {
   loans_fit = le_prop x.loans_fit y.loans_fit i;
 }
 
-all_once : (es : List model.Entry) → IsProp (All Proper es)
+all_once : (es : List model.Entry) → IsProp (AllByRecursion Proper es)
 all_once [] x y = refl
 all_once (e ∷ es) x y = λ i. (proper_once e x.0 y.0 i, all_once es x.1 y.1 i)
 
@@ -41,7 +41,7 @@ mid_once m g s x y = λ i. record {
 }
 
 module _ {K : Type 0} (f h : K → List ℕ) where
-  all_other : (es : List (Entry K)) → All Proper (entries_of f es) → All Proper (entries_of h es)
+  all_other : (es : List (Entry K)) → AllByRecursion Proper (entries_of f es) → AllByRecursion Proper (entries_of h es)
   all_other [] a = tt
   all_other (e ∷ es) a =
       let p = a.0 in (

@@ -1,7 +1,7 @@
 -- The machine's questions about its list and its changes of it, from those of the rows.
 use Rattle.std.proofs.Common.{◌≡◌, ℕ, ◌+◌, Bool, true, false, cond, not, ◌&&◌, eqb, List, [], ◌∷◌, ◌++◌, is_some, Some, None, Option, sym, refl, ap, ◌∙◌, ap₂}
 use Rattle.keys.specs.declared.FrameNo.{FrameNo}
-use Rattle.std.specs.List.{AllByRecursion as All}
+use Rattle.std.specs.List.{AllByRecursion}
 use Rattle.std.proofs.lemmas.List.{map-append}
 use Rattle.std.proofs.lemmas.Bool.{cond-true, cond-false}
 use Rattle.chains.specs.Orders.{Apart}
@@ -73,11 +73,11 @@ module _ {K : Type 0} (m : K → List ℕ) (p : model.Entry → Bool) (q : Entry
   module _ (r : Row K) where
     -- a list cut at the first entry that passes
     module _ (zs : List model.Entry) (t : q r.entry ≡ true) where
-      first_at : (xs : List (Row K)) → All (λ x. q x.entry ≡ false) xs → model.first p (entries_in m xs ++ entry_in m r.entry ∷ zs) ≡ Some (entry_in m r.entry)
+      first_at : (xs : List (Row K)) → AllByRecursion (λ x. q x.entry ≡ false) xs → model.first p (entries_in m xs ++ entry_in m r.entry ∷ zs) ≡ Some (entry_in m r.entry)
       first_at [] a = cond-true (p (entry_in m r.entry)) _ _ (agree r.entry ∙ t)
       first_at (x ∷ xs) a = cond-false (p (entry_in m x.entry)) _ _ (agree x.entry ∙ a.0) ∙ first_at xs a.1
 
-      replaced_at : (f : model.Entry → List model.Entry) (xs : List (Row K)) → All (λ x. q x.entry ≡ false) xs
+      replaced_at : (f : model.Entry → List model.Entry) (xs : List (Row K)) → AllByRecursion (λ x. q x.entry ≡ false) xs
           → model.replaced p f (entries_in m xs ++ entry_in m r.entry ∷ zs) ≡ entries_in m xs ++ (f (entry_in m r.entry) ++ zs)
       replaced_at f [] a = cond-true (p (entry_in m r.entry)) _ _ (agree r.entry ∙ t)
       replaced_at f (x ∷ xs) a = cond-false (p (entry_in m x.entry)) _ _ (agree x.entry ∙ a.0) ∙ ap (λ l. entry_in m x.entry ∷ l) (replaced_at f xs a.1)

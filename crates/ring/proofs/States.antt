@@ -1,7 +1,7 @@
 -- The machine's state after a change of the rows.
 use Rattle.std.proofs.Common.{◌≡◌, ℕ, ◌≤◌, Bool, true, false, ltb, List, [], ◌∷◌, ◌++◌, is_some, Some, None, Option, sym, refl, ap, ◌∙◌, ap₂}
 use Rattle.keys.specs.declared.FrameNo.{FrameNo}
-use Rattle.std.specs.List.{ContainsAt as Has}
+use Rattle.std.specs.List.{ContainsAt}
 use Rattle.std.proofs.lemmas.List.{map-append}
 use Rattle.chains.specs.declared.cell.Cell.{Cell}
 use Rattle.rows.specs.Rows.{rows_in, without_cell, replaced, first_row, first_by, remembered, idle, number, Stands}
@@ -109,7 +109,7 @@ module _ {K : Type 0} (m : K → List ℕ) (cells : List (Cell (Entry K))) (ring
 
   module _ (st : Stands cells ring.table) where
     -- the row at the tail
-    pub tail_has : (r : Row K) → first_row (rows_in cells ring.table) ≡ Some r → Has (rows_in cells ring.table) r
+    pub tail_has : (r : Row K) → first_row (rows_in cells ring.table) ≡ Some r → ContainsAt (rows_in cells ring.table) r
     tail_has r e = (tail_parts cells ring.table st r e).3
 
     pub tail_none : first_row (rows_in cells ring.table) ≡ None → machine_of m cells ring ≡ hot_step (machine_of m cells ring)
@@ -155,7 +155,7 @@ module _ {K : Type 0} (m : K → List ℕ) (cells : List (Cell (Entry K))) (ring
 
     -- the first row that passes a question
     module _ (p : model.Entry → Bool) (q : Entry K → Bool) (agree : (e : Entry K) → p (entry_in m e) ≡ q e) (r : Row K) (e : first_by q (rows_in cells ring.table) ≡ Some r) where
-      pub found_has : Has (rows_in cells ring.table) r
+      pub found_has : ContainsAt (rows_in cells ring.table) r
       found_has = nearest_has (rows_in cells ring.table) q r (nearest q r (rows_in cells ring.table) e) (cells_apart cells ring.table st)
 
       pub found_passes : q r.entry ≡ true

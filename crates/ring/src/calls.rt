@@ -3,7 +3,7 @@
 ghost use Rattle.std.specs.Prelude.{◌≡◌, ℕ, ◌*◌, ◌<◌, ◌≤◌, true, false, List, length, if◌then◌else◌, Some, None, nat_lt};
 ghost use Rattle.keys.specs.Same.{same_list};
 ghost use Rattle.rows.specs.Rows.{Stands, rows_in, first_by};
-ghost use Rattle.std.specs.List.{ContainsAt as Has};
+ghost use Rattle.std.specs.List.{ContainsAt};
 ghost use Rattle.machine.specs.Entry.{first, named, lies_in};
 ghost use Rattle.machine.specs.Borrow as rules;
 ghost use Rattle.machine.specs.Facts.{Mid, Well};
@@ -150,7 +150,7 @@ pub fn mark_page<K: Key + Copy>(
 /// B1: the entry of a resident key gets its bit set and one loan more. It keeps its place.
 fn touch<K: Key + Copy>(cells: &mut [Cell<Entry<K>>], ring: &mut Ring, row: Row<K>)
     requires stands { Stands cells.old ring.old.table }
-    requires there { Has (rows_in cells.old ring.old.table) row }
+    requires there { ContainsAt (rows_in cells.old ring.old.table) row }
     requires loans { row.entry.loans < 255 }
     ensures stands { Stands cells.new ring.new.table }
     ensures step { (k : List ℕ) → first_by (λ e. same_list k (K.Key.meaning e.key)) (rows_in cells.old ring.old.table) ≡ Some row → machine_of K.Key.meaning cells.new ring.new ≡ rules.hit k (machine_of K.Key.meaning cells.old ring.old) }
@@ -164,7 +164,7 @@ fn touch<K: Key + Copy>(cells: &mut [Cell<Entry<K>>], ring: &mut Ring, row: Row<
 /// B2: the entry of a remembered key is taken out, and the cold allocation is raised.
 fn take_out<K: Key + Copy>(cells: &mut [Cell<Entry<K>>], ring: &mut Ring, m: u32, row: Row<K>)
     requires stands { Stands cells.old ring.old.table }
-    requires there { Has (rows_in cells.old ring.old.table) row }
+    requires there { ContainsAt (rows_in cells.old ring.old.table) row }
     ensures stands { Stands cells.new ring.new.table }
     ensures step { (k : List ℕ) → first_by (λ e. same_list k (K.Key.meaning e.key)) (rows_in cells.old ring.old.table) ≡ Some row → machine_of K.Key.meaning cells.new ring.new ≡ rules.recalled m k (machine_of K.Key.meaning cells.old ring.old) }
 {

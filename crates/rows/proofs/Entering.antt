@@ -1,7 +1,7 @@
 -- A new row at the head, in an unused cell.
 use Rattle.std.proofs.Common.{◌≡◌, ℕ, ◌+◌, ◌<◌, ◌≤◌, Bool, true, false, cond, eqb, List, [], ◌∷◌, ◌++◌, length, is_some as option_is_some, Some, None, Option, sym, refl, ap, ◌∙◌, subst, arith}
 use Rattle.keys.specs.declared.FrameNo.{FrameNo}
-use Rattle.std.specs.List.{ContainsAt as Has, AllByRecursion as All}
+use Rattle.std.specs.List.{ContainsAt, AllByRecursion}
 use Rattle.std.proofs.lemmas.List.{map-append, length_push}
 use Rattle.std.proofs.ByRecursion.{All-push, all-has}
 use Rattle.std.proofs.lemmas.Bool.{eq-eqb, ne_eqb, eqb-false, cond-true, cond-false}
@@ -39,19 +39,19 @@ module _ {K : Type 0} where
   )
 
   slots_same : (slot : ℕ → ℕ) (i : ℕ) (f : ℕ) (rows : List (Row K)) → first_by (lies_in f) rows ≡ None
-      → All (λ r. Slot slot r.cell.0 r.entry.frame) rows → All (λ r. Slot (λ j. cond (eqb j f) i (slot j)) r.cell.0 r.entry.frame) rows
+      → AllByRecursion (λ r. Slot slot r.cell.0 r.entry.frame) rows → AllByRecursion (λ r. Slot (λ j. cond (eqb j f) i (slot j)) r.cell.0 r.entry.frame) rows
   slots_same slot i f [] e h = tt
   slots_same slot i f (r ∷ rs) e h = go (lies_in f r.entry) refl e (λ z. slots_same slot i f rs z h.1)
     where
       go : (b : Bool) → lies_in f r.entry ≡ b → cond b (Some r) (first_by (lies_in f) rs) ≡ None
-          → (first_by (lies_in f) rs ≡ None → All (λ x. Slot (λ j. cond (eqb j f) i (slot j)) x.cell.0 x.entry.frame) rs)
-          → All (λ x. Slot (λ j. cond (eqb j f) i (slot j)) x.cell.0 x.entry.frame) (r ∷ rs)
+          → (first_by (lies_in f) rs ≡ None → AllByRecursion (λ x. Slot (λ j. cond (eqb j f) i (slot j)) x.cell.0 x.entry.frame) rs)
+          → AllByRecursion (λ x. Slot (λ j. cond (eqb j f) i (slot j)) x.cell.0 x.entry.frame) (r ∷ rs)
       go true q z ih = let y : ◌≡◌ {A = ℕ} 0 1 = cc in let n : ⊥ = omega arith in absurd n
       go false q z ih = (slot_other slot i f r.cell.0 r.entry.frame q h.0, ih z)
 
   -- the slot of a frame that no row names is written
   pub slots_kept : (slot : ℕ → ℕ) (i n : ℕ) (o : Option FrameNo) (rows : List (Row K)) → Unnamed n rows o
-      → All (λ r. Slot slot r.cell.0 r.entry.frame) rows → All (λ r. Slot (noted_slot i o slot) r.cell.0 r.entry.frame) rows
+      → AllByRecursion (λ r. Slot slot r.cell.0 r.entry.frame) rows → AllByRecursion (λ r. Slot (noted_slot i o slot) r.cell.0 r.entry.frame) rows
   slots_kept slot i n None rows u h = h
   slots_kept slot i n (Some f) rows u h = slots_same slot i f.0 rows u.1 h
 
@@ -59,7 +59,7 @@ module _ {K : Type 0} where
   module _ (hots past idles : ℕ) (s : Shape (Entry K)) (rows : List (Row K)) (k : Linked hots past idles s rows) (i : CellNo) (rest : List ℕ)
       (first : s.order Free ≡ i.0 ∷ rest) (apart : Apart (s.order Free)) where
     pub empty_here : s.entry i.0 ≡ None
-    empty_here = (subst (All (λ j. s.entry j ≡ None)) first k.vacant).0
+    empty_here = (subst (AllByRecursion (λ j. s.entry j ≡ None)) first k.vacant).0
 
     pub not_used : Misses i.0 (cells_of rows)
     not_used = vacant_cell s.entry i.0 empty_here rows k.entries
@@ -113,8 +113,8 @@ module _ {K : Type 0} (cells : List (Cell (Entry K))) (b : Table) (st : Stands c
     pub free_parts : (rest : List ℕ) × ((shape_of cells b.chains).order Free ≡ i.0 ∷ rest)
     free_parts = head_is ((shape_of cells b.chains).order Free) i e
 
-    pub free_has : Has ((shape_of cells b.chains).order Free) i.0
-    free_has = subst (λ o. Has o i.0) (sym free_parts.1) (0, omega arith, λ d. refl)
+    pub free_has : ContainsAt ((shape_of cells b.chains).order Free) i.0
+    free_has = subst (λ o. ContainsAt o i.0) (sym free_parts.1) (0, omega arith, λ d. refl)
 
     pub free_inside : i.0 < (shape_of cells b.chains).size
     free_inside = all-has (λ j. j < (shape_of cells b.chains).size) ((shape_of cells b.chains).order Free) i.0 (order_inside cells b.chains (intact cells b st) Free) free_has

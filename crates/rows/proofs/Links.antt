@@ -1,7 +1,7 @@
 -- The shape of the chains holds the rows: before and after a row is turned or taken out.
 use Rattle.std.proofs.Common.{◌≡◌, ℕ, ◌+◌, ◌<◌, Bool, true, false, cond, eqb, ◌≢◌, List, [], ◌∷◌, ◌++◌, Some, None, MatchBool, Option, sym, refl, ap, ◌∙◌, subst, arith}
 use Rattle.keys.specs.declared.FrameNo.{FrameNo}
-use Rattle.std.specs.List.{ContainsAt as Has, AllByRecursion as All}
+use Rattle.std.specs.List.{ContainsAt, AllByRecursion}
 use Rattle.std.proofs.lemmas.List.{append-nil, map-append, length_push}
 use Rattle.std.proofs.ByRecursion.{All-push, All-weaker}
 use Rattle.std.proofs.lemmas.Bool.{ne_eqb, eq-eqb, cond-true, cond-false, cond_both, eqb-true}
@@ -13,8 +13,8 @@ use Rattle.rows.specs.declared.Entry.{Entry}
 use Rattle.rows.specs.declared.Row.{Row}
 use Rattle.rows.proofs.Splits.{cells_without, by_without, by_turned, number_append, Within, cells_replaced, length_replaced}
 
-pub as_member : (o : List ℕ) (i : ℕ) (b b' : Bool) → b' ≡ b → MatchBool b (Has o i) (Misses i o) → MatchBool b' (Has o i) (Misses i o)
-as_member o i b b' e h = subst (λ x. MatchBool x (Has o i) (Misses i o)) (sym e) h
+pub as_member : (o : List ℕ) (i : ℕ) (b b' : Bool) → b' ≡ b → MatchBool b (ContainsAt o i) (Misses i o) → MatchBool b' (ContainsAt o i) (Misses i o)
+as_member o i b b' e h = subst (λ x. MatchBool x (ContainsAt o i) (Misses i o)) (sym e) h
 
 -- an entry that keeps its frame or gives it up keeps its slot
 pub slot_kept : (slot : ℕ → ℕ) (i : ℕ) (old new : Option FrameNo) → Kept old new → Slot slot i old → Slot slot i new
@@ -23,7 +23,7 @@ slot_kept slot i old (Some f) k h = subst (Slot slot i) k h
 
 module _ {K : Type 0} where
   abbrev pub Holds : (ℕ → Option (Entry K)) → List (Row K) → Type 0
-  Holds f rows = All (λ r. f r.cell.0 ≡ Some r.entry) rows
+  Holds f rows = AllByRecursion (λ r. f r.cell.0 ≡ Some r.entry) rows
 
   -- the function reads the rows that the relation has
   pub gathered : (f : ℕ → Option (Entry K)) (rows : List (Row K)) → Holds f rows → gather f (cells_of rows) ≡ rows
@@ -41,13 +41,13 @@ module _ {K : Type 0} where
       (λ n. (cond-false (eqb r.cell.0 i) e (f r.cell.0) n ∙ h.0, others_hold f i e rs h.1))
 
   -- what holds of each row holds of each that is left
-  pub all_left : (P : Row K → Type 0) (i : ℕ) (rows : List (Row K)) → All P rows → All P (without_cell i rows)
+  pub all_left : (P : Row K → Type 0) (i : ℕ) (rows : List (Row K)) → AllByRecursion P rows → AllByRecursion P (without_cell i rows)
   all_left P i [] h = tt
   all_left P i (r ∷ rs) h =
-      cond_both (eqb r.cell.0 i) (without_cell i rs) (r ∷ without_cell i rs) (All P)
+      cond_both (eqb r.cell.0 i) (without_cell i rs) (r ∷ without_cell i rs) (AllByRecursion P)
       (λ _. all_left P i rs h.1) (λ _. (h.0, all_left P i rs h.1))
 
-  pub all_put : (P : Row K → Type 0) (i : ℕ) (new : Entry K) → ((r : Row K) → r.cell.0 ≡ i → P (record { cell = r.cell; entry = new })) → (rows : List (Row K)) → All P rows → All P (replaced i new rows)
+  pub all_put : (P : Row K → Type 0) (i : ℕ) (new : Entry K) → ((r : Row K) → r.cell.0 ≡ i → P (record { cell = r.cell; entry = new })) → (rows : List (Row K)) → AllByRecursion P rows → AllByRecursion P (replaced i new rows)
   all_put P i new q [] h = tt
   all_put P i new q (r ∷ rs) h = (
     cond_both (eqb r.cell.0 i) (record { cell = r.cell; entry = new }) r P (λ e. q r (eqb-true r.cell.0 i e)) (λ _. h.0),
@@ -74,10 +74,10 @@ module _ {K : Type 0} where
     all_hold f i new rs h.1,
   )
 
-  pub not_vacant : (f : ℕ → Option (Entry K)) (i : ℕ) (x : Entry K) → f i ≡ Some x → (o : List ℕ) → All (λ j. f j ≡ None) o → Misses i o
+  pub not_vacant : (f : ℕ → Option (Entry K)) (i : ℕ) (x : Entry K) → f i ≡ Some x → (o : List ℕ) → AllByRecursion (λ j. f j ≡ None) o → Misses i o
   not_vacant f i x e o = All-weaker (λ j. f j ≡ None) (λ j. j ≢ i) (λ j n q. let m = ap f q in let z : ◌≡◌ {A = ℕ} 0 1 = cc in omega arith) o
 
-  pub still_vacant : (f : ℕ → Option (Entry K)) (i : ℕ) (e : Option (Entry K)) (o : List ℕ) → Misses i o → All (λ j. f j ≡ None) o → All (λ j. cond (eqb j i) e (f j) ≡ None) o
+  pub still_vacant : (f : ℕ → Option (Entry K)) (i : ℕ) (e : Option (Entry K)) (o : List ℕ) → Misses i o → AllByRecursion (λ j. f j ≡ None) o → AllByRecursion (λ j. cond (eqb j i) e (f j) ≡ None) o
   still_vacant f i e [] m a = tt
   still_vacant f i e (j ∷ js) m a = (cond-false (eqb j i) e (f j) (ne_eqb j i m.0) ∙ a.0, still_vacant f i e js m.1 a.1)
 
@@ -88,9 +88,9 @@ module _ {K : Type 0} where
     pub members : r.cell.0 < s.size → Members s r
     members h = record {
       inside = h;
-      ring = subst (λ o. Has o r.cell.0) (sym k.ring) w.cells;
-      cold = subst (λ o. MatchBool (cold_resident r.entry) (Has o r.cell.0) (Misses r.cell.0 o)) (sym k.cold) (w.member cold_resident);
-      test = subst (λ o. MatchBool r.entry.test (Has o r.cell.0) (Misses r.cell.0 o)) (sym k.test) (w.member (λ e. e.test));
+      ring = subst (λ o. ContainsAt o r.cell.0) (sym k.ring) w.cells;
+      cold = subst (λ o. MatchBool (cold_resident r.entry) (ContainsAt o r.cell.0) (Misses r.cell.0 o)) (sym k.cold) (w.member cold_resident);
+      test = subst (λ o. MatchBool r.entry.test (ContainsAt o r.cell.0) (Misses r.cell.0 o)) (sym k.test) (w.member (λ e. e.test));
       used = away;
     }
 

@@ -1,6 +1,6 @@
 -- All cells are emptied, one by one.
 use Rattle.std.proofs.Common.{◌≡◌, ℕ, ◌+◌, ◌<◌, cond, eqb, ◌≢◌, [], length, None, refl, ap, ◌∙◌, arith}
-use Rattle.std.specs.List.{AllByRecursion as All}
+use Rattle.std.specs.List.{AllByRecursion}
 use Rattle.std.proofs.lemmas.List.{length_push}
 use Rattle.std.proofs.ByRecursion.{All-push, All-weaker}
 use Rattle.std.proofs.lemmas.Bool.{cond-true, cond_both, eq-eqb}
@@ -15,8 +15,8 @@ pub record Emptied {K : Type 0} (s : Shape (Entry K)) (k : ℕ) : Type 0 where
   pub ring : s.order Ring ≡ []
   pub cold : s.order Cold ≡ []
   pub test : s.order Test ≡ []
-  pub vacant : All (λ j. s.entry j ≡ None) (s.order Free)
-  pub below : All (λ j. j < k) (s.order Free)
+  pub vacant : AllByRecursion (λ j. s.entry j ≡ None) (s.order Free)
+  pub below : AllByRecursion (λ j. j < k) (s.order Free)
   pub many : length (s.order Free) ≡ k
 
 module _ {K : Type 0} (s : Shape (Entry K)) (k : ℕ) (e : Emptied s k) where

@@ -1,7 +1,7 @@
 -- Lists of rows: what is left without one cell, what passes a test, and how many.
 use Rattle.std.proofs.Common.{◌≡◌, ℕ, suc, ◌+◌, ◌≤◌, Bool, true, false, cond, eqb, ◌≢◌, List, [], ◌∷◌, ◌++◌, length, take, drop, MatchBool, filter, sym, refl, ap, ◌∙◌, subst, arith}
 use lib.Seq.{split_at}
-use Rattle.std.specs.List.{ContainsAt as Has}
+use Rattle.std.specs.List.{ContainsAt}
 use Rattle.std.proofs.lemmas.List.{map-append}
 use Rattle.std.proofs.lemmas.List.Elements.{filter-append}
 use Rattle.std.proofs.ByRecursion.{All-append, has_append_right}
@@ -12,7 +12,7 @@ use Rattle.rows.specs.Rows.{cells_of, cells_by, number, without_cell, replaced}
 use Rattle.rows.specs.declared.Entry.{Entry}
 use Rattle.rows.specs.declared.Row.{Row}
 
-pub has_parts : {X : Type 0} (o : List X) (x : X) → Has o x → (xs : List X) × (zs : List X) × (o ≡ xs ++ x ∷ zs)
+pub has_parts : {X : Type 0} (o : List X) (x : X) → ContainsAt o x → (xs : List X) × (zs : List X) × (o ≡ xs ++ x ∷ zs)
 has_parts o x h = (
   take h.0 o,
   drop (suc h.0) o,
@@ -118,18 +118,18 @@ module _ {K : Type 0} where
     cut_length = rw cut_is (cut_length_at xs)
 
     member_go : (b : Bool) (o : List ℕ) (ks : List (Row K)) → Misses r.cell.0 o → Misses r.cell.0 (cells_of ks)
-        → MatchBool b (Has (o ++ cells_of (cond b (r ∷ ks) ks)) r.cell.0) (Misses r.cell.0 (o ++ cells_of (cond b (r ∷ ks) ks)))
+        → MatchBool b (ContainsAt (o ++ cells_of (cond b (r ∷ ks) ks)) r.cell.0) (Misses r.cell.0 (o ++ cells_of (cond b (r ∷ ks) ks)))
     member_go true o ks m n = has_append_right o (r.cell.0 ∷ cells_of ks) r.cell.0 (0, omega arith, λ d. refl)
     member_go false o ks m n = All-append (λ y. y ≢ r.cell.0) o (cells_of ks) m n
 
     -- r's cell is among those that pass just where r's entry passes
-    pub cut_member : (p : Entry K → Bool) → MatchBool (p r.entry) (Has (cells_by p (xs ++ r ∷ zs)) r.cell.0) (Misses r.cell.0 (cells_by p (xs ++ r ∷ zs)))
+    pub cut_member : (p : Entry K → Bool) → MatchBool (p r.entry) (ContainsAt (cells_by p (xs ++ r ∷ zs)) r.cell.0) (Misses r.cell.0 (cells_by p (xs ++ r ∷ zs)))
     cut_member p =
-        subst (λ o. MatchBool (p r.entry) (Has o r.cell.0) (Misses r.cell.0 o)) (sym (by_append p xs (r ∷ zs)))
+        subst (λ o. MatchBool (p r.entry) (ContainsAt o r.cell.0) (Misses r.cell.0 o)) (sym (by_append p xs (r ∷ zs)))
         (member_go (p r.entry) (cells_by p xs) (filter (λ x. p x.entry) zs) (misses_by p r.cell.0 xs mx) (misses_by p r.cell.0 zs mz))
 
-    pub cut_has : Has (cells_of (xs ++ r ∷ zs)) r.cell.0
-    cut_has = subst (λ o. Has o r.cell.0) (sym (map-append (λ x. x.cell.0) xs (r ∷ zs)))
+    pub cut_has : ContainsAt (cells_of (xs ++ r ∷ zs)) r.cell.0
+    cut_has = subst (λ o. ContainsAt o r.cell.0) (sym (map-append (λ x. x.cell.0) xs (r ∷ zs)))
         (has_append_right (cells_of xs) (r.cell.0 ∷ cells_of zs) r.cell.0 (0, omega arith, λ d. refl))
 
     -- r's entry becomes `new` where it stands
@@ -184,15 +184,15 @@ module _ {K : Type 0} where
 
   -- a row of a list whose cells differ
   pub record Within (rows : List (Row K)) (r : Row K) : Type 0 where
-    pub cells : Has (cells_of rows) r.cell.0
-    pub member : (p : Entry K → Bool) → MatchBool (p r.entry) (Has (cells_by p rows) r.cell.0) (Misses r.cell.0 (cells_by p rows))
+    pub cells : ContainsAt (cells_of rows) r.cell.0
+    pub member : (p : Entry K → Bool) → MatchBool (p r.entry) (ContainsAt (cells_by p rows) r.cell.0) (Misses r.cell.0 (cells_by p rows))
     pub fewer : (p : Entry K → Bool) → number p (without_cell r.cell.0 rows) + cond (p r.entry) 1 0 ≡ number p rows
     pub size : suc (length (without_cell r.cell.0 rows)) ≡ length rows
     pub renumber : (new : Entry K) (p : Entry K → Bool) → number p (replaced r.cell.0 new rows) + cond (p r.entry) 1 0 ≡ number p rows + cond (p new) 1 0
     pub put : (new : Entry K) (p : Entry K → Bool) → (p new ≡ true → p r.entry ≡ true)
         → cond (p new) (cells_by p rows) (without r.cell.0 (cells_by p rows)) ≡ cells_by p (replaced r.cell.0 new rows)
 
-  pub within : (rows : List (Row K)) (r : Row K) → Apart (cells_of rows) → Has rows r → Within rows r
+  pub within : (rows : List (Row K)) (r : Row K) → Apart (cells_of rows) → ContainsAt rows r → Within rows r
   within rows r a h =
       let q = has_parts rows r h in
       let e : cells_of (q.0 ++ r ∷ q.1) ≡ cells_of q.0 ++ r.cell.0 ∷ cells_of q.1 = map-append (λ x. x.cell.0) q.0 (r ∷ q.1) in

@@ -1,6 +1,6 @@
 -- What is known of a ring that stands, and when one does.
 use Rattle.std.proofs.Common.{◌≡◌, ℕ, ◌+◌, ◌<◌, ◌≤◌, Bool, true, false, cond, List, [], ◌∷◌, ◌++◌, length, Some, None, sym, refl, ap, ◌∙◌, subst, arith}
-use Rattle.std.specs.List.{ContainsAt as Has}
+use Rattle.std.specs.List.{ContainsAt}
 use Rattle.std.proofs.ByRecursion.{all-has}
 use Rattle.std.proofs.lemmas.Bool.{cond-true, cond-false}
 use Rattle.chains.specs.Orders.{Apart}
@@ -37,7 +37,7 @@ module _ {K : Type 0} (cells : List (Cell (Entry K))) (b : Table) where
     pub cells_apart : Apart (cells_of (rows_in cells b))
     cells_apart = subst Apart linked.ring (order_apart cells b.chains intact Ring)
 
-    module _ (r : Row K) (h : Has (rows_in cells b) r) where
+    module _ (r : Row K) (h : ContainsAt (rows_in cells b) r) where
       pub row_within : Within (rows_in cells b) r
       row_within = within (rows_in cells b) r cells_apart h
 
@@ -46,7 +46,7 @@ module _ {K : Type 0} (cells : List (Cell (Entry K))) (b : Table) where
 
       pub row_inside : r.cell.0 < (shape_of cells b.chains).size
       row_inside = all-has (λ j. j < (shape_of cells b.chains).size) ((shape_of cells b.chains).order Ring) r.cell.0
-          (order_inside cells b.chains intact Ring) (subst (λ o. Has o r.cell.0) (sym linked.ring) row_within.cells)
+          (order_inside cells b.chains intact Ring) (subst (λ o. ContainsAt o r.cell.0) (sym linked.ring) row_within.cells)
 
       pub row_slot : Slot (shape_of cells b.chains).slot r.cell.0 r.entry.frame
       row_slot = all-has (λ x. Slot (shape_of cells b.chains).slot x.cell.0 x.entry.frame) (rows_in cells b) r linked.directory h
@@ -102,20 +102,20 @@ module _ {K : Type 0} (cells : List (Cell (Entry K))) (b : Table) where
         go (r ∷ rs) h = let z : ◌≡◌ {A = ℕ} 0 1 = cc in let y : ⊥ = omega arith in absurd y
 
     pub tail_some : (i : ℕ) → head_of ((shape_of cells b.chains).order Ring) ≡ Some i
-        → (r : Row K) × (r.cell.0 ≡ i) × (first_row (rows_in cells b) ≡ Some r) × Has (rows_in cells b) r
+        → (r : Row K) × (r.cell.0 ≡ i) × (first_row (rows_in cells b) ≡ Some r) × ContainsAt (rows_in cells b) r
     tail_some i e = go (rows_in cells b) (ap head_of (sym linked.ring) ∙ e)
       where
-        go : (rows : List (Row K)) → head_of (cells_of rows) ≡ Some i → (r : Row K) × (r.cell.0 ≡ i) × (first_row rows ≡ Some r) × Has rows r
+        go : (rows : List (Row K)) → head_of (cells_of rows) ≡ Some i → (r : Row K) × (r.cell.0 ≡ i) × (first_row rows ≡ Some r) × ContainsAt rows r
         go [] h = let z : ◌≡◌ {A = ℕ} 0 1 = cc in let y : ⊥ = omega arith in absurd y
         go (r ∷ rs) h = (r, cc, refl, (0, omega arith, λ d. refl))
 
     -- the tail's row is the first, and the others are left without its cell
     pub tail_parts : (r : Row K) → first_row (rows_in cells b) ≡ Some r
-        → (rest : List (Row K)) × (rows_in cells b ≡ r ∷ rest) × (without_cell r.cell.0 (rows_in cells b) ≡ rest) × Has (rows_in cells b) r
+        → (rest : List (Row K)) × (rows_in cells b ≡ r ∷ rest) × (without_cell r.cell.0 (rows_in cells b) ≡ rest) × ContainsAt (rows_in cells b) r
     tail_parts r e = go (rows_in cells b) cells_apart e
       where
         go : (rows : List (Row K)) → Apart (cells_of rows) → first_row rows ≡ Some r
-            → (rest : List (Row K)) × (rows ≡ r ∷ rest) × (without_cell r.cell.0 rows ≡ rest) × Has rows r
+            → (rest : List (Row K)) × (rows ≡ r ∷ rest) × (without_cell r.cell.0 rows ≡ rest) × ContainsAt rows r
         go [] a h = let z : ◌≡◌ {A = ℕ} 0 1 = cc in let y : ⊥ = omega arith in absurd y
         go (x ∷ xs) a h =
             let q : x ≡ r = cc in (

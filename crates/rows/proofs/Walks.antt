@@ -1,6 +1,6 @@
 -- A walk along one chain, looking for the first row that passes a test.
 use Rattle.std.proofs.Common.{◌≡◌, ℕ, zero, suc, ◌+◌, ◌<◌, ◌≤◌, Bool, true, false, cond, ◌&&◌, List, [], ◌∷◌, ◌++◌, length, get_or, drop, Some, None, filter, Option, sym, refl, ap, ◌∙◌, subst, inl, inr, add-one, arith}
-use Rattle.std.specs.List.{ContainsAt as Has, AllByRecursion as All}
+use Rattle.std.specs.List.{ContainsAt, AllByRecursion}
 use Rattle.std.proofs.lemmas.List.{drop_all, length-map, map-append}
 use Rattle.std.proofs.ByRecursion.{has_append_right, all_kept_by, all_has_itself, all-has}
 use Rattle.std.proofs.lemmas.Bool.{cond-true, cond-false, cases_Bool}
@@ -25,15 +25,15 @@ module _ {K : Type 0} where
 
   -- what stands at k
   pub spot : (l : List (Row K)) (k : ℕ) → k < length l
-      → (x : Row K) × (get_or (cells_of l) k 0 ≡ x.cell.0) × Has l x × (drop k l ≡ x ∷ drop (suc k) l)
+      → (x : Row K) × (get_or (cells_of l) k 0 ≡ x.cell.0) × ContainsAt l x × (drop k l ≡ x ∷ drop (suc k) l)
   spot [] k h = let y : ⊥ = omega arith in absurd y
   spot (y ∷ ys) zero h = (y, refl, (0, omega arith, λ d. refl), refl)
   spot (y ∷ ys) (suc k) h =
       let q = spot ys k (omega arith) in
       (q.0, q.1, has_append_right (y ∷ []) ys q.0 q.2, q.3)
 
-  pub has_kept : (p : Row K → Bool) (rows : List (Row K)) (x : Row K) → Has (filter p rows) x → Has rows x
-  has_kept p rows x h = all-has (Has rows) (filter p rows) x (all_kept_by p (Has rows) rows (all_has_itself rows)) h
+  pub has_kept : (p : Row K → Bool) (rows : List (Row K)) (x : Row K) → ContainsAt (filter p rows) x → ContainsAt rows x
+  has_kept p rows x h = all-has (ContainsAt rows) (filter p rows) x (all_kept_by p (ContainsAt rows) rows (all_has_itself rows)) h
 
   module _ (l : List (Row K)) (p : Entry K → Bool) (k at : ℕ) (w : Walk l p k at) where
     module _ (h : k < length l) (x : Row K) (e : drop k l ≡ x ∷ drop (suc k) l) where
@@ -98,7 +98,7 @@ module _ {K : Type 0} where
     pub front : List (Row K)
     pub back : List (Row K)
     pub is : rows ≡ front ++ r ∷ back
-    pub passed : All (λ x. q x.entry ≡ false) front
+    pub passed : AllByRecursion (λ x. q x.entry ≡ false) front
     pub passes : q r.entry ≡ true
 
   pub nearest : (q : Entry K → Bool) (r : Row K) (rows : List (Row K)) → first_by q rows ≡ Some r → Nearest rows q r
@@ -128,18 +128,18 @@ module _ {K : Type 0} where
         ap (replaced r.cell.0 new) n.is
         ∙ put_is n.front r n.back (apart_before (cells_of n.front) r.cell.0 (cells_of n.back) parts) (apart_after (cells_of n.front) r.cell.0 (cells_of n.back) parts) new
 
-    pub nearest_has : Has rows r
-    nearest_has = subst (λ l. Has l r) (sym n.is) (has_append_right n.front (r ∷ n.back) r (0, omega arith, λ d. refl))
+    pub nearest_has : ContainsAt rows r
+    nearest_has = subst (λ l. ContainsAt l r) (sym n.is) (has_append_right n.front (r ∷ n.back) r (0, omega arith, λ d. refl))
 
 -- a walk along the chain w, whose rows are l
 module _ {K : Type 0} (cells : List (Cell (Entry K))) (b : Table) (w : Chain) (l : List (Row K))
-    (e : (shape_of cells b.chains).order w ≡ cells_of l) (sub : (x : Row K) → Has l x → Has (rows_in cells b) x) where
+    (e : (shape_of cells b.chains).order w ≡ cells_of l) (sub : (x : Row K) → ContainsAt l x → ContainsAt (rows_in cells b) x) where
   pub chain_length : length ((shape_of cells b.chains).order w) ≡ length l
   chain_length = ap length e ∙ length-map l (λ r. r.cell.0)
 
   -- the row that it has come to
   pub come_to : (p : Entry K → Bool) (k at : ℕ) → Walk l p k at → k < length l
-      → (x : Row K) × Has (rows_in cells b) x × (x.cell.0 ≡ at) × (drop k l ≡ x ∷ drop (suc k) l)
+      → (x : Row K) × ContainsAt (rows_in cells b) x × (x.cell.0 ≡ at) × (drop k l ≡ x ∷ drop (suc k) l)
   come_to p k at v h =
       let q = spot l k h in
       (q.0, sub q.0 q.2, sym (v.here h ∙ q.1), q.3)
@@ -147,10 +147,10 @@ module _ {K : Type 0} (cells : List (Cell (Entry K))) (b : Table) (w : Chain) (l
 -- the chain w goes along the rows l
 pub record Along {K : Type 0} (cells : List (Cell (Entry K))) (b : Table) (w : Chain) (l : List (Row K)) : Type 0 where
   pub order : (shape_of cells b.chains).order w ≡ cells_of l
-  pub sub : (x : Row K) → Has l x → Has (rows_in cells b) x
+  pub sub : (x : Row K) → ContainsAt l x → ContainsAt (rows_in cells b) x
   pub size : length ((shape_of cells b.chains).order w) ≡ length l
   pub spot : (p : Entry K → Bool) (k at : ℕ) → Walk l p k at → k < length l
-      → (x : Row K) × Has (rows_in cells b) x × (x.cell.0 ≡ at) × (drop k l ≡ x ∷ drop (suc k) l)
+      → (x : Row K) × ContainsAt (rows_in cells b) x × (x.cell.0 ≡ at) × (drop k l ≡ x ∷ drop (suc k) l)
 
 module _ {K : Type 0} (cells : List (Cell (Entry K))) (b : Table) (st : Stands cells b) where
   pub along_cold : Along cells b Cold (filter (λ r. cold_resident r.entry) (rows_in cells b))
@@ -172,7 +172,7 @@ module _ {K : Type 0} (cells : List (Cell (Entry K))) (b : Table) (st : Stands c
       let e = (linked cells b st).ring in
       record { order = e; sub = λ x h. h; size = chain_length cells b Ring (rows_in cells b) e (λ x h. h); spot = come_to cells b Ring (rows_in cells b) e (λ x h. h) }
 
-  pub row_of : (i : ℕ) → Has (cells_of (rows_in cells b)) i → (x : Row K) × Has (rows_in cells b) x × (x.cell.0 ≡ i)
+  pub row_of : (i : ℕ) → ContainsAt (cells_of (rows_in cells b)) i → (x : Row K) × ContainsAt (rows_in cells b) x × (x.cell.0 ≡ i)
   row_of i h =
       let q = spot (rows_in cells b) h.0 (omega (arith, h.1, length-map (rows_in cells b) (λ r. r.cell.0))) in
       (q.0, q.2, sym q.1 ∙ h.2 0)

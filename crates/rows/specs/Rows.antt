@@ -9,7 +9,7 @@
 --   relinked, rewritten, joined, cut_out what a change does to the shape of the cells
 use Rattle.std.specs.Prelude.{◌≡◌, ℕ, ◌+◌, ◌<◌, Bool, false, cond, not, ◌&&◌, List, [], ◌∷◌, map, length, is_some, Some, None, MatchBool, filter, Option, ◌==◌}
 use Rattle.keys.specs.declared.FrameNo.{FrameNo}
-use Rattle.std.specs.List.{ContainsAt as Has, AllByRecursion as All}
+use Rattle.std.specs.List.{ContainsAt, AllByRecursion}
 use Rattle.chains.specs.Orders.{Misses}
 use Rattle.chains.specs.declared.cell.Cell.{Cell}
 use Rattle.chains.specs.declared.cell.Chain.TheVariants.{Ring, Cold, Test, Free}
@@ -115,13 +115,13 @@ pub record Linked {K : Type 0} (hots past idles : ℕ) (s : Shape (Entry K)) (ro
   pub ring : s.order Ring ≡ cells_of rows
   pub cold : s.order Cold ≡ cells_by cold_resident rows
   pub test : s.order Test ≡ cells_by (λ e. e.test) rows
-  pub entries : All (λ r. s.entry r.cell.0 ≡ Some r.entry) rows
-  pub vacant : All (λ j. s.entry j ≡ None) (s.order Free)
+  pub entries : AllByRecursion (λ r. s.entry r.cell.0 ≡ Some r.entry) rows
+  pub vacant : AllByRecursion (λ j. s.entry j ≡ None) (s.order Free)
   pub full : length rows + length (s.order Free) ≡ s.size
   pub warm : hots ≡ number (λ e. e.hot) rows
   pub left : past ≡ number remembered rows
   pub unlents : idles ≡ number idle rows
-  pub directory : All (λ r. Slot s.slot r.cell.0 r.entry.frame) rows
+  pub directory : AllByRecursion (λ r. Slot s.slot r.cell.0 r.entry.frame) rows
 
 -- the rows of a ring, from the tail to the head
 unfoldable pub rows_in : {K : Type 0} → List (Cell (Entry K)) → Table → List (Row K)
@@ -137,9 +137,9 @@ Stands cells b = Standing cells b
 -- a row's cell is in the chains that its entry belongs to, and in no other
 pub record Members {K : Type 0} (s : Shape (Entry K)) (r : Row K) : Type 0 where
   pub inside : r.cell.0 < s.size
-  pub ring : Has (s.order Ring) r.cell.0
-  pub cold : MatchBool (cold_resident r.entry) (Has (s.order Cold) r.cell.0) (Misses r.cell.0 (s.order Cold))
-  pub test : MatchBool r.entry.test (Has (s.order Test) r.cell.0) (Misses r.cell.0 (s.order Test))
+  pub ring : ContainsAt (s.order Ring) r.cell.0
+  pub cold : MatchBool (cold_resident r.entry) (ContainsAt (s.order Cold) r.cell.0) (Misses r.cell.0 (s.order Cold))
+  pub test : MatchBool r.entry.test (ContainsAt (s.order Test) r.cell.0) (Misses r.cell.0 (s.order Test))
   pub used : Misses r.cell.0 (s.order Free)
 
 -- the shape after a row took a new entry and went to the head

@@ -8,7 +8,7 @@
 #![tactic(auto)]
 
 ghost use Rattle.std.specs.Prelude.{◌≡◌, ℕ, ◌+◌, ◌^◌, ◌<◌, true, false, [], ◌∷◌, ◌++◌, length, IfOk, if◌then◌else◌, Some, None};
-ghost use Rattle.std.specs.List.{ContainsAt as Has};
+ghost use Rattle.std.specs.List.{ContainsAt};
 ghost use Rattle.chains.specs.Orders.{Misses};
 ghost use Rattle.chains.specs.declared.cell.Chain.TheVariants.{Ring, Cold, Test, Free};
 ghost use Rattle.chains.specs.Shape.{shape_of, Intact};
@@ -166,8 +166,8 @@ pub fn tail_row<K: Copy>(cells: &[Cell<Entry<K>>], table: &Table) -> Option<Row<
 /// The row of a cell of the ring.
 fn row_at<K: Copy>(cells: &[Cell<Entry<K>>], table: &Table, cell: CellNo) -> Row<K>
     requires stands { Stands cells.now table.now }
-    requires there { Has (cells_of (rows_in cells.now table.now)) cell.0 }
-    ensures { (x : Row K) → Has (rows_in cells.now table.now) x → x.cell.0 ≡ cell.0 → result ≡ x }
+    requires there { ContainsAt (cells_of (rows_in cells.now table.now)) cell.0 }
+    ensures { (x : Row K) → ContainsAt (rows_in cells.now table.now) x → x.cell.0 ≡ cell.0 → result ≡ x }
 {
     let entry = chains::entry(cells, &table.chains, cell).unwrap();
     Row { cell, entry }
@@ -320,7 +320,7 @@ fn link_in<K: Copy>(cells: &mut [Cell<Entry<K>>], chains: &mut Chains, i: CellNo
     requires intact { Intact cells.old chains.old }
     requires slot { Fits (length cells.old) new.frame }
     requires inside { i.0 < (shape_of cells.old chains.old).size }
-    requires free { Has ((shape_of cells.old chains.old).order Free) i.0 }
+    requires free { ContainsAt ((shape_of cells.old chains.old).order Free) i.0 }
     requires ring { Misses i.0 ((shape_of cells.old chains.old).order Ring) }
     requires cold { Misses i.0 ((shape_of cells.old chains.old).order Cold) }
     requires test { Misses i.0 ((shape_of cells.old chains.old).order Test) }
@@ -376,7 +376,7 @@ pub fn enter<K: Copy>(cells: &mut [Cell<Entry<K>>], table: &mut Table, new: Entr
 /// The entry of a row becomes `new` and goes to the head.
 pub fn turn<K: Copy>(cells: &mut [Cell<Entry<K>>], table: &mut Table, row: Row<K>, new: Entry<K>)
     requires stands { Stands cells.old table.old }
-    requires there { Has (rows_in cells.old table.old) row }
+    requires there { ContainsAt (rows_in cells.old table.old) row }
     requires frame { Kept row.entry.frame new.frame }
     ensures stands { Stands cells.new table.new }
     ensures rows { rows_in cells.new table.new ≡ without_cell row.cell.0 (rows_in cells.old table.old) ++ record { cell = row.cell; entry = new } ∷ [] }
@@ -390,7 +390,7 @@ pub fn turn<K: Copy>(cells: &mut [Cell<Entry<K>>], table: &mut Table, row: Row<K
 /// The entry of a row becomes `new` where it stands. It joins no chain by that: what is cold or marked then was so before.
 pub fn rewrite<K: Copy>(cells: &mut [Cell<Entry<K>>], table: &mut Table, row: Row<K>, new: Entry<K>)
     requires stands { Stands cells.old table.old }
-    requires there { Has (rows_in cells.old table.old) row }
+    requires there { ContainsAt (rows_in cells.old table.old) row }
     requires frame { Kept row.entry.frame new.frame }
     requires cold { cold_resident new ≡ true → cold_resident row.entry ≡ true }
     requires test { new.test ≡ true → row.entry.test ≡ true }
@@ -406,7 +406,7 @@ pub fn rewrite<K: Copy>(cells: &mut [Cell<Entry<K>>], table: &mut Table, row: Ro
 /// A row is removed.
 pub fn take_out<K: Copy>(cells: &mut [Cell<Entry<K>>], table: &mut Table, row: Row<K>)
     requires stands { Stands cells.old table.old }
-    requires there { Has (rows_in cells.old table.old) row }
+    requires there { ContainsAt (rows_in cells.old table.old) row }
     ensures stands { Stands cells.new table.new }
     ensures rows { rows_in cells.new table.new ≡ without_cell row.cell.0 (rows_in cells.old table.old) }
 {

@@ -1,5 +1,5 @@
 use Rattle.std.proofs.Common.{sym, ap, ◌∙◌, subst}
-use Rattle.std.specs.List.{ContainsAt as Has}
+use Rattle.std.specs.List.{ContainsAt}
 use Rattle.chains.specs.Orders.{Sound, order_of, without}
 use Rattle.chains.specs.Shape.{shape_of, Intact}
 use Rattle.chains.proofs.Shapes.{intact_one, shape_one}
@@ -9,7 +9,7 @@ pub unlink-requires : goal.unlink-requires
 unfolding Intact shape_of
 unlink-requires g c = record {
   sound = subst (λ x. Sound c.args.cells.now c.args.which x) (sym c.pick-chain.ensures) (c.requires.intact c.args.which);
-  there = subst (λ x. Has (order_of c.args.cells.now c.args.which x) c.args.i.0) (sym c.pick-chain.ensures) c.requires.there;
+  there = subst (λ x. ContainsAt (order_of c.args.cells.now c.args.which x) c.args.i.0) (sym c.pick-chain.ensures) c.requires.there;
 }
 
 pub returns : goal.returns

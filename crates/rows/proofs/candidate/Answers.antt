@@ -1,5 +1,5 @@
 use Rattle.std.proofs.Common.{◌+◌, ◌<◌, length, get_or, Some, filter, sym, ap, ◌∙◌, subst, arith}
-use Rattle.std.specs.List.{ContainsAt as Has}
+use Rattle.std.specs.List.{ContainsAt}
 use Rattle.std.proofs.lemmas.Bool.{eq-eqb, ne_eqb}
 use Rattle.chains.specs.Shape.{shape_of}
 use Rattle.rows.specs.Rows.{cells_of, rows_in, cold_resident, unlent}
@@ -30,7 +30,7 @@ row_at-row-requires g c =
     let x = a.spot p c.loop-k._k c.loop-k.at.0 c.loop-k.invariant h in
     record {
       stands = c.requires;
-      there = subst (Has (cells_of (rows_in c.args.cells.now c.args.table.now))) x.2 (row_within c.args.cells.now c.args.table.now c.requires x.0 x.1).cells;
+      there = subst (ContainsAt (cells_of (rows_in c.args.cells.now c.args.table.now))) x.2 (row_within c.args.cells.now c.args.table.now c.requires x.0 x.1).cells;
     }
 
 pub next-at-requires : goal.next-at-requires

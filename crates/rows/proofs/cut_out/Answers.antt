@@ -1,5 +1,5 @@
 use Rattle.std.proofs.Common.{◌<◌, false, MatchBool, sym, ap, ◌∙◌, subst}
-use Rattle.std.specs.List.{ContainsAt as Has}
+use Rattle.std.specs.List.{ContainsAt}
 use Rattle.chains.specs.Orders.{Misses}
 use Rattle.chains.specs.declared.cell.Chain.TheVariants.{Ring, Cold, Test, Free}
 use Rattle.chains.specs.Shape.{shape_of, unlinked, followed}
@@ -13,7 +13,7 @@ put-requires g c = record { intact = c.requires.intact; cell = c.requires.there.
 pub unlink-requires : goal.unlink-requires
 unlink-requires g c = record {
   intact = c.put.ensures.intact;
-  there = subst (λ s. Has (s.order Ring) c.args.row.cell.0) (sym c.put.ensures.shape) c.requires.there.ring;
+  there = subst (λ s. ContainsAt (s.order Ring) c.args.row.cell.0) (sym c.put.ensures.shape) c.requires.there.ring;
 }
 
 pub follow-requires : goal.follow-requires
@@ -23,7 +23,7 @@ follow-requires g c =
     record {
       intact = c.unlink.ensures.intact;
       cell = subst (λ s. i < s.size) (sym e) c.requires.there.inside;
-      member = subst (λ s. MatchBool c.is_cold_resident.result (Has (s.order Cold) i) (Misses i (s.order Cold))) (sym e)
+      member = subst (λ s. MatchBool c.is_cold_resident.result (ContainsAt (s.order Cold) i) (Misses i (s.order Cold))) (sym e)
           (as_member ((shape_of c.args.cells.now c.args.chains.now).order Cold) i (cold_resident c.args.row.entry) c.is_cold_resident.result c.is_cold_resident.ensures c.requires.there.cold);
     }
 
@@ -34,7 +34,7 @@ follow-requires-2 g c =
     record {
       intact = c.follow.ensures.intact;
       cell = subst (λ s. i < s.size) (sym e) c.requires.there.inside;
-      member = subst (λ s. MatchBool c.args.row.entry.test (Has (s.order Test) i) (Misses i (s.order Test))) (sym e) c.requires.there.test;
+      member = subst (λ s. MatchBool c.args.row.entry.test (ContainsAt (s.order Test) i) (Misses i (s.order Test))) (sym e) c.requires.there.test;
     }
 
 pub push-requires : goal.push-requires

@@ -1,5 +1,5 @@
 use Rattle.std.proofs.Common.{◌<◌, Some, sym, ap, ◌∙◌, subst}
-use Rattle.std.specs.List.{ContainsAt as Has}
+use Rattle.std.specs.List.{ContainsAt}
 use Rattle.chains.specs.Orders.{Misses}
 use Rattle.chains.specs.declared.cell.Chain.TheVariants.{Ring, Cold, Test, Free}
 use Rattle.chains.specs.Shape.{shape_of, unlinked, pushed, followed, stored}
@@ -16,7 +16,7 @@ put-requires g c = record { intact = c.note.ensures.intact; cell = subst (λ s. 
 pub unlink-requires : goal.unlink-requires
 unlink-requires g c = record {
   intact = c.put.ensures.intact;
-  there = subst (λ s. Has (s.order Free) c.args.i.0) (sym ((c.put.ensures.shape ∙ ap (stored c.args.i.0 (Some c.args.new)) c.note.ensures.shape))) c.requires.free;
+  there = subst (λ s. ContainsAt (s.order Free) c.args.i.0) (sym ((c.put.ensures.shape ∙ ap (stored c.args.i.0 (Some c.args.new)) c.note.ensures.shape))) c.requires.free;
 }
 
 pub push-requires : goal.push-requires

@@ -1,5 +1,5 @@
 use Rattle.std.proofs.Common.{◌+◌, ◌<◌, true, false, ◌++◌, length, get_or, vec_items, sym, refl, ap, ◌∙◌, subst, arith}
-use Rattle.std.specs.List.{ContainsAt as Has}
+use Rattle.std.specs.List.{ContainsAt}
 use Rattle.std.proofs.lemmas.Result.{err_from_is_err_and}
 use Rattle.chains.specs.Shape.{shape_of}
 use Rattle.rows.specs.declared.Row.{Row}
@@ -34,7 +34,7 @@ row_at-row-requires g c =
     let x = a.spot (λ _. false) c.loop-k._k c.loop-k.at.0 c.loop-k.invariant.walk h in
     record {
       stands = c.requires;
-      there = subst (Has (cells_of (rows_in c.args.cells.now c.args.table.now))) x.2 (row_within c.args.cells.now c.args.table.now c.requires x.0 x.1).cells;
+      there = subst (ContainsAt (cells_of (rows_in c.args.cells.now c.args.table.now))) x.2 (row_within c.args.cells.now c.args.table.now c.requires x.0 x.1).cells;
     }
 
 pub next-at-requires : goal.next-at-requires

@@ -1,5 +1,5 @@
 use Rattle.std.proofs.Common.{true, Some, filter, sym, refl, ap, ◌∙◌, subst}
-use Rattle.std.specs.List.{ContainsAt as Has}
+use Rattle.std.specs.List.{ContainsAt}
 use Rattle.rows.specs.Rows.{cells_of, rows_in}
 use Rattle.rows.proofs.Stand.{row_within}
 use Rattle.rows.proofs.Walks.{along_test, walk_found, walk_empty, walk_starts, first_kept, head_some}
@@ -21,7 +21,7 @@ row_at-requires g c =
     let x = a.spot (λ _. true) 0 c.in-Some.at.0 w h in
     record {
       stands = c.requires;
-      there = subst (Has (cells_of rows)) x.2 (row_within c.args.cells.now c.args.table.now c.requires x.0 x.1).cells;
+      there = subst (ContainsAt (cells_of rows)) x.2 (row_within c.args.cells.now c.args.table.now c.requires x.0 x.1).cells;
     }
 
 pub returns : goal.returns

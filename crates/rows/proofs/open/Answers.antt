@@ -1,5 +1,5 @@
 use Rattle.std.proofs.Common.{◌≡◌, ◌+◌, ◌<◌, [], length, None, sym, ap, ◌∙◌, subst, arith}
-use Rattle.std.specs.List.{AllByRecursion as All}
+use Rattle.std.specs.List.{AllByRecursion}
 use Rattle.chains.specs.Orders.{Misses}
 use Rattle.chains.specs.declared.cell.Chain.TheVariants.{Ring, Cold, Test, Free}
 use Rattle.chains.specs.Shape.{shape_of, pushed}
@@ -18,8 +18,8 @@ loop-i-init g c =
         ring = n Ring;
         cold = n Cold;
         test = n Test;
-        vacant = subst (All (λ j. s.entry j ≡ None)) (sym (n Free)) tt;
-        below = subst (All (λ j. j < 0)) (sym (n Free)) tt;
+        vacant = subst (AllByRecursion (λ j. s.entry j ≡ None)) (sym (n Free)) tt;
+        below = subst (AllByRecursion (λ j. j < 0)) (sym (n Free)) tt;
         many = ap length (n Free);
       },
     )

@@ -1,5 +1,5 @@
 use Rattle.std.proofs.Common.{◌<◌, MatchBool, sym, ap, ◌∙◌, subst}
-use Rattle.std.specs.List.{ContainsAt as Has}
+use Rattle.std.specs.List.{ContainsAt}
 use Rattle.chains.specs.Orders.{Misses}
 use Rattle.chains.specs.declared.cell.Chain.TheVariants.{Ring, Cold, Test}
 use Rattle.chains.specs.Shape.{shape_of, turned, followed}
@@ -15,7 +15,7 @@ to_head-requires g c =
     let e = c.put.ensures.shape in
     record {
       intact = c.put.ensures.intact;
-      there = subst (λ s. Has (s.order Ring) c.args.row.cell.0) (sym e) c.requires.there.ring;
+      there = subst (λ s. ContainsAt (s.order Ring) c.args.row.cell.0) (sym e) c.requires.there.ring;
     }
 
 pub follow-requires : goal.follow-requires
@@ -25,7 +25,7 @@ follow-requires g c =
     record {
       intact = c.to_head.ensures.intact;
       cell = subst (λ s. i < s.size) (sym e) c.requires.there.inside;
-      member = subst (λ s. MatchBool c.is_cold_resident.result (Has (s.order Cold) i) (Misses i (s.order Cold))) (sym e)
+      member = subst (λ s. MatchBool c.is_cold_resident.result (ContainsAt (s.order Cold) i) (Misses i (s.order Cold))) (sym e)
           (as_member ((shape_of c.args.cells.now c.args.chains.now).order Cold) i (cold_resident c.args.row.entry) c.is_cold_resident.result c.is_cold_resident.ensures c.requires.there.cold);
     }
 
@@ -36,5 +36,5 @@ follow-requires-2 g c =
     record {
       intact = c.follow.ensures.intact;
       cell = subst (λ s. i < s.size) (sym e) c.requires.there.inside;
-      member = subst (λ s. MatchBool c.args.row.entry.test (Has (s.order Test) i) (Misses i (s.order Test))) (sym e) c.requires.there.test;
+      member = subst (λ s. MatchBool c.args.row.entry.test (ContainsAt (s.order Test) i) (Misses i (s.order Test))) (sym e) c.requires.there.test;
     }

@@ -1,5 +1,5 @@
 use Rattle.std.proofs.Common.{MatchBool, sym, ap, ◌∙◌, subst}
-use Rattle.std.specs.List.{ContainsAt as Has}
+use Rattle.std.specs.List.{ContainsAt}
 use Rattle.chains.specs.Orders.{Misses}
 use Rattle.chains.specs.declared.cell.Chain.TheVariants.{Cold, Test}
 use Rattle.chains.specs.Shape.{shape_of, stayed}
@@ -16,7 +16,7 @@ keep-requires g c =
     let e = c.put.ensures.shape in
     record {
       intact = c.put.ensures.intact;
-      member = subst (λ s. MatchBool c.is_cold_resident.result (Has (s.order Cold) i) (Misses i (s.order Cold))) (sym e)
+      member = subst (λ s. MatchBool c.is_cold_resident.result (ContainsAt (s.order Cold) i) (Misses i (s.order Cold))) (sym e)
           (as_member ((shape_of c.args.cells.now c.args.chains.now).order Cold) i (cold_resident c.args.row.entry) c.is_cold_resident.result c.is_cold_resident.ensures c.requires.there.cold);
     }
 
@@ -26,5 +26,5 @@ keep-requires-2 g c =
     let e = c.keep.ensures.shape ∙ ap (stayed Cold i c.is_cold_resident-2.result) c.put.ensures.shape in
     record {
       intact = c.keep.ensures.intact;
-      member = subst (λ s. MatchBool c.args.row.entry.test (Has (s.order Test) i) (Misses i (s.order Test))) (sym e) c.requires.there.test;
+      member = subst (λ s. MatchBool c.args.row.entry.test (ContainsAt (s.order Test) i) (Misses i (s.order Test))) (sym e) c.requires.there.test;
     }
