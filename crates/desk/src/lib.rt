@@ -1,4 +1,5 @@
-//! A desk: a pool whose loans are kept in hands, and the one call that serves a list of orders and holds the whole promise.
+//! A desk: a pool whose loans are kept in hands. It serves one order at a time; the call that serves a list of orders is not
+//! built yet.
 
 #![tactic(auto)]
 
