@@ -5,7 +5,7 @@ ghost use Rattle.bundles.specs.Format.{rows_in, pages_in};
 
 /// A bundle that was opened: a struct over the bytes given, with the parts of its two sections at their known places,
 ///
-///     bytes   count D | rows, 7·D bytes | count N | pages, N.P bytes
+///     bytes   count D | rows, 7·D bytes | count N | pages, N·P bytes
 ///     from    0         2                 2 + 7·D   6 + 7·D
 #[derive(Clone, Copy)]
 pub struct Bundle<'a> {
