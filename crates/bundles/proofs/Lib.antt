@@ -1,2 +1,3 @@
 pub mod Passed
 pub mod Placed
+pub mod Chunks

@@ -1,116 +1,104 @@
 -- The loops over rows: each turn passes one row, and what is asked of all rows is asked of those that are left.
-use Rattle.std.proofs.Common.{◌≡◌, ℕ, suc, ◌+◌, ◌-◌, ◌*◌, ◌^◌, ◌<◌, ◌≤◌, Bool, true, false, not, ◌&&◌, ◌||◌, eqb, leb, List, [], ◌∷◌, ◌++◌, map, Some, None, sym, refl, ap, ◌∙◌, arith}
-use Rattle.std.specs.List.{range_with_len}
-use Rattle.std.proofs.lemmas.List.FromFn.{map-range_with_len_more}
-use Rattle.std.proofs.lemmas.Bool.{and_left, and_parts, leb-true, eq-eqb, ne_eqb, or_left, cond-true, cond-false}
-use Rattle.bundles.specs.Format.{Row, row_at, rows_in, listed_in, good_row, good_after, good_rows, pages_in}
+use Rattle.std.proofs.Common.{◌≡◌, ℕ, zero, suc, ◌+◌, ◌*◌, ◌<◌, ◌≤◌, Bool, true, false, not, ◌&&◌, ◌||◌, eqb, leb, List, [], ◌∷◌, ◌++◌, length, get_or, take, drop, sym, refl, ap, ◌∙◌, arith}
+use Rattle.std.specs.List.{list_any, list_all}
+use Rattle.std.proofs.lemmas.List.{take_more, at_drop_more}
+use Rattle.std.proofs.lemmas.Bool.{and_left, and_right, and_parts, and_from, leb-true, not_from_true, not_from_false}
+use Rattle.bundles.specs.Format.{Row, two, row_from, rows_from, listed_in, fit_row, good_row, good_after, good_rows, pages_in}
 use Rattle.bundles.specs.Contents.{found}
 
--- the rows from i on, below n
-abbrev pub rows_from : List ℕ → ℕ → ℕ → List Row
-rows_from part i n = map (row_at part) (range_with_len i (n - i))
-
-pub rows_begin : (part : List ℕ) (n : ℕ) → rows_in part n ≡ rows_from part 0 n
-rows_begin part n = let e : n ≡ n - 0 = omega arith in ap (λ k. map (row_at part) (range_with_len 0 k)) e
-
-pub rows_more : (part : List ℕ) (i n : ℕ) → i < n → rows_from part i n ≡ row_at part i ∷ rows_from part (i + 1) n
-rows_more part i n h = let e : n - i ≡ suc (n - (i + 1)) = omega arith in ap (λ k. map (row_at part) (range_with_len i k)) e
-
-pub rows_end : (part : List ℕ) (i n : ℕ) → n ≤ i → rows_from part i n ≡ []
-rows_end part i n h = let e : n - i ≡ 0 = omega arith in ap (λ k. map (row_at part) (range_with_len i k)) e
-
-pub rows_push : (part : List ℕ) (i : ℕ) → rows_in part (i + 1) ≡ rows_in part i ++ (row_at part i ∷ [])
-rows_push part i = map-range_with_len_more (row_at part) 0 i i (omega arith)
+rows_push : (rs before : List (List ℕ)) (s : List ℕ) → rs ≡ before ++ (s ∷ []) → rows_from rs ≡ rows_from before ++ (row_from s ∷ [])
+rows_push rs before s e = ap rows_from e ∙ go before
+  where
+    go : (xs : List (List ℕ)) → rows_from (xs ++ (s ∷ [])) ≡ rows_from xs ++ (row_from s ∷ [])
+    go [] = refl
+    go (x ∷ xs) = ap (λ r. row_from x ∷ r) (go xs)
 
 -- LISTED
 
-pub record Unlisted (d : ℕ) (part : List ℕ) (n i : ℕ) : Type 0 where
-  pub same : listed_in d (rows_in part n) ≡ listed_in d (rows_from part i n)
-
-pub unlisted_begin : (d : ℕ) (part : List ℕ) (n : ℕ) → Unlisted d part n 0
-unlisted_begin d part n = record { same = ap (listed_in d) (rows_begin part n) }
-
-other : (b c : Bool) → b ≡ false → (b || c) ≡ c
-other false c h = refl
-other true c h = let z : ◌≡◌ {A = ℕ} 0 1 = cc in absurd (omega arith)
-
-pub unlisted_more : (d : ℕ) (part : List ℕ) (n i : ℕ) → i < n → ((row_at part i).delivery ≡ d → ⊥) → Unlisted d part n i → Unlisted d part n (i + 1)
-unlisted_more d part n i h x u = record {
-  same = u.same ∙ ap (listed_in d) (rows_more part i n h) ∙ other (eqb (row_at part i).delivery d) (listed_in d (rows_from part (i + 1) n)) (ne_eqb (row_at part i).delivery d x);
-}
-
-pub listed_here : (d : ℕ) (part : List ℕ) (n i : ℕ) → i < n → (row_at part i).delivery ≡ d → Unlisted d part n i → listed_in d (rows_in part n) ≡ true
-listed_here d part n i h e u =
-    u.same ∙ ap (listed_in d) (rows_more part i n h) ∙ or_left (eqb (row_at part i).delivery d) (listed_in d (rows_from part (i + 1) n)) (eq-eqb (row_at part i).delivery d e)
-
-pub listed_none : (d : ℕ) (part : List ℕ) (n i : ℕ) → n ≤ i → Unlisted d part n i → listed_in d (rows_in part n) ≡ false
-listed_none d part n i h u = u.same ∙ ap (listed_in d) (rows_end part i n h)
+listed_any : (d : ℕ) (rs : List (List ℕ)) → list_any (λ row. eqb (two row 0) d) rs ≡ listed_in d (rows_from rs)
+listed_any d [] = refl
+listed_any d (s ∷ rs) = ap (λ b. eqb (two s 0) d || b) (listed_any d rs)
 
 -- GOOD, AND ADDED UP
 
-pub record Added (part : List ℕ) (n i sum : ℕ) : Type 0 where
-  pub good : good_rows (rows_in part n) ≡ good_after (rows_in part i) (rows_from part i n)
-  pub total : sum ≡ pages_in (rows_in part i)
+good_is : (before : List Row) (r : Row) → good_row before r ≡ (fit_row r && not (listed_in r.delivery before))
+good_is before r = go (leb r.unit 1)
+  where
+    go : (b : Bool) → (b && (leb r.pages 1048576 && not (listed_in r.delivery before))) ≡ ((b && leb r.pages 1048576) && not (listed_in r.delivery before))
+    go true = refl
+    go false = refl
+
+-- a row that is good is fit by itself
+good_fit : (before : List Row) (r : Row) → good_row before r ≡ true → fit_row r ≡ true
+good_fit before r h = (and_parts (fit_row r) (not (listed_in r.delivery before)) (sym (good_is before r) ∙ h)).0
+
+-- and has few pages
+fit_few : (r : Row) → fit_row r ≡ true → r.pages ≤ 1048576
+fit_few r h = leb-true r.pages 1048576 (and_parts (leb r.unit 1) (leb r.pages 1048576) h).1
+
+-- the same of a row that was read
+few_at : (r : Row) (seven : List ℕ) → r ≡ row_from seven → fit_row (row_from seven) ≡ true → r.pages ≤ 1048576
+few_at r seven e h = let f = fit_few (row_from seven) h in let q = ap (λ (y : Row). y.pages) e in omega arith
+
+-- where all rows are good, each is fit
+good_all : (before : List Row) (rs : List (List ℕ)) → good_after before (rows_from rs) ≡ true → list_all fit_row (rows_from rs) ≡ true
+good_all before [] h = refl
+good_all before (s ∷ rs) h =
+    let p = and_parts (good_row before (row_from s)) (good_after (before ++ (row_from s ∷ [])) (rows_from rs)) h in
+    and_from (fit_row (row_from s)) (list_all fit_row (rows_from rs)) (good_fit before (row_from s) p.0) (good_all (before ++ (row_from s ∷ [])) rs p.1)
+
+pub all_fit : (rs : List (List ℕ)) → good_rows (rows_from rs) ≡ true → list_all fit_row (rows_from rs) ≡ true
+all_fit rs h = good_all [] rs h
+
+all_at : (rs : List (List ℕ)) (i : ℕ) (d : List ℕ) → list_all fit_row (rows_from rs) ≡ true → i < length rs → fit_row (row_from (get_or rs i d)) ≡ true
+all_at [] i d h l = absurd (omega arith)
+all_at (s ∷ rs) zero d h l = (and_parts (fit_row (row_from s)) (list_all fit_row (rows_from rs)) h).0
+all_at (s ∷ rs) (suc i) d h l = all_at rs i d (and_parts (fit_row (row_from s)) (list_all fit_row (rows_from rs)) h).1 (omega arith)
+
+pub fit_at : (rs : List (List ℕ)) (i : ℕ) (d : List ℕ) → good_rows (rows_from rs) ≡ true → i < length rs → fit_row (row_from (get_or rs i d)) ≡ true
+fit_at rs i d h l = all_at rs i d (all_fit rs h) l
+
+pub record Added (rs : List (List ℕ)) (i sum : ℕ) : Type 0 where
+  pub good : good_rows (rows_from rs) ≡ good_after (rows_from (take i rs)) (rows_from (drop i rs))
+  pub total : sum ≡ pages_in (rows_from (take i rs))
   pub small : sum ≤ i * 1048576
-
-pub added_begin : (part : List ℕ) (n : ℕ) → Added part n 0 0
-added_begin part n = record { good = ap good_rows (rows_begin part n); total = refl; small = omega arith }
-
-ahead : (b c : Bool) → b ≡ true → (b && c) ≡ c
-ahead true c h = refl
-ahead false c h = let z : ◌≡◌ {A = ℕ} 0 1 = cc in absurd (omega arith)
 
 pages_push : (rows : List Row) (r : Row) → pages_in (rows ++ (r ∷ [])) ≡ pages_in rows + r.pages
 pages_push [] r = omega arith
 pages_push (x ∷ rows) r = let h = pages_push rows r in omega arith
 
--- a good row has few pages
-good_few : (before : List Row) (r : Row) → good_row before r ≡ true → r.pages ≤ 1048576
-good_few before r h =
-    let p = and_parts (leb r.unit 1) (leb r.pages 1048576 && not (listed_in r.delivery before)) h in
-    let q = and_parts (leb r.pages 1048576) (not (listed_in r.delivery before)) p.1 in
-    leb-true r.pages 1048576 q.0
+-- the next row, as it stands before those that are left
+good_next : (rs : List (List ℕ)) (i sum : ℕ) → i < length rs → Added rs i sum → good_rows (rows_from rs) ≡ (good_row (rows_from (take i rs)) (row_from (get_or rs i [])) && good_after (rows_from (take i rs) ++ (row_from (get_or rs i []) ∷ [])) (rows_from (drop (i + 1) rs)))
+good_next rs i sum l x = x.good ∙ at_drop_more (λ s. good_after (rows_from (take i rs)) (rows_from s)) rs i [] l
 
-pub added_more : (part : List ℕ) (n i sum : ℕ) → i < n → good_row (rows_in part i) (row_at part i) ≡ true → Added part n i sum → Added part n (i + 1) (sum + (row_at part i).pages)
-added_more part n i sum h k x = record {
-  good = x.good ∙ ap (good_after (rows_in part i)) (rows_more part i n h)
-      ∙ ahead (good_row (rows_in part i) (row_at part i)) (good_after (rows_in part i ++ (row_at part i ∷ [])) (rows_from part (i + 1) n)) k
-      ∙ ap (λ rows. good_after rows (rows_from part (i + 1) n)) (sym (rows_push part i));
-  total = ap (λ s. s + (row_at part i).pages) x.total ∙ sym (pages_push (rows_in part i) (row_at part i)) ∙ ap pages_in (sym (rows_push part i));
-  small = let s = x.small in let f = good_few (rows_in part i) (row_at part i) k in omega arith;
-}
+pub added_more : (rs : List (List ℕ)) (i sum : ℕ) (r : Row) → i < length rs → r ≡ row_from (get_or rs i []) → fit_row (row_from (get_or rs i [])) ≡ true → list_any (λ row. eqb (two row 0) r.delivery) (take i rs) ≡ false →
+    Added rs i sum → Added rs (i + 1) (sum + r.pages)
+added_more rs i sum r l e h k x =
+    let before = rows_from (take i rs) in
+    let s = get_or rs i [] in
+    let push : rows_from (take (i + 1) rs) ≡ before ++ (row_from s ∷ []) = rows_push (take (i + 1) rs) (take i rs) s (take_more rs i [] l) in
+    let again : listed_in (row_from s).delivery before ≡ false = ap (λ (y : Row). listed_in y.delivery before) (sym e) ∙ sym (listed_any r.delivery (take i rs)) ∙ k in
+    let ok : good_row before (row_from s) ≡ true = good_is before (row_from s) ∙ and_from (fit_row (row_from s)) (not (listed_in (row_from s).delivery before)) h (not_from_false (listed_in (row_from s).delivery before) again) in
+    record {
+      good = good_next rs i sum l x ∙ ap (λ b. b && good_after (before ++ (row_from s ∷ [])) (rows_from (drop (i + 1) rs))) ok ∙ ap (λ u. good_after u (rows_from (drop (i + 1) rs))) (sym push);
+      total = ap (λ n. n + r.pages) x.total ∙ ap (λ (y : Row). pages_in before + y.pages) e ∙ sym (pages_push before (row_from s)) ∙ ap pages_in (sym push);
+      small = let f = x.small in let g = few_at r s e h in omega arith;
+    }
 
-pub added_all : (part : List ℕ) (n i sum : ℕ) → n ≤ i → Added part n i sum → good_rows (rows_in part n) ≡ true
-added_all part n i sum h x = x.good ∙ ap (good_after (rows_in part i)) (rows_end part i n h)
+bad : (rs : List (List ℕ)) (i sum : ℕ) → i < length rs → good_row (rows_from (take i rs)) (row_from (get_or rs i [])) ≡ false → Added rs i sum → good_rows (rows_from rs) ≡ false
+bad rs i sum l h x = good_next rs i sum l x ∙ and_left (good_row (rows_from (take i rs)) (row_from (get_or rs i []))) (good_after (rows_from (take i rs) ++ (row_from (get_or rs i []) ∷ [])) (rows_from (drop (i + 1) rs))) h
 
--- a row that is not as it must be
-pub added_bad : (part : List ℕ) (n i sum : ℕ) → i < n → good_row (rows_in part i) (row_at part i) ≡ false → Added part n i sum → good_rows (rows_in part n) ≡ false
-added_bad part n i sum h k x =
-    x.good ∙ ap (good_after (rows_in part i)) (rows_more part i n h)
-    ∙ and_left (good_row (rows_in part i) (row_at part i)) (good_after (rows_in part i ++ (row_at part i ∷ [])) (rows_from part (i + 1) n)) k
+-- a row that lists a delivery again
+pub added_again : (rs : List (List ℕ)) (i sum : ℕ) (r : Row) → i < length rs → r ≡ row_from (get_or rs i []) → list_any (λ row. eqb (two row 0) r.delivery) (take i rs) ≡ true → Added rs i sum → good_rows (rows_from rs) ≡ false
+added_again rs i sum r l e k x =
+    let before = rows_from (take i rs) in
+    let s = get_or rs i [] in
+    let again : listed_in (row_from s).delivery before ≡ true = ap (λ (y : Row). listed_in y.delivery before) (sym e) ∙ sym (listed_any r.delivery (take i rs)) ∙ k in
+    bad rs i sum l (good_is before (row_from s) ∙ and_right (fit_row (row_from s)) (not (listed_in (row_from s).delivery before)) (not_from_true (listed_in (row_from s).delivery before) again)) x
 
 -- FOUND
 
-pub record Sought (d : ℕ) (part : List ℕ) (n i before : ℕ) : Type 0 where
-  pub same : found d 0 (rows_in part n) ≡ found d before (rows_from part i n)
-  pub small : before ≤ i * 4294967296
-
-pub sought_begin : (d : ℕ) (part : List ℕ) (n : ℕ) → Sought d part n 0 0
-sought_begin d part n = record { same = ap (found d 0) (rows_begin part n); small = omega arith }
-
-pub sought_more : (d : ℕ) (part : List ℕ) (n i before : ℕ) → i < n → ((row_at part i).delivery ≡ d → ⊥) → (row_at part i).pages < 2 ^ 32 →
-    Sought d part n i before → Sought d part n (i + 1) (before + (row_at part i).pages)
-sought_more d part n i before h x f s = record {
-  same = s.same ∙ ap (found d before) (rows_more part i n h)
-      ∙ cond-false (eqb (row_at part i).delivery d) (Some (record { before = before; row = row_at part i })) (found d (before + (row_at part i).pages) (rows_from part (i + 1) n)) (ne_eqb (row_at part i).delivery d x);
-  small = let k = s.small in omega arith;
-}
-
-pub sought_here : (d : ℕ) (part : List ℕ) (n i before : ℕ) → i < n → (row_at part i).delivery ≡ d → Sought d part n i before →
-    found d 0 (rows_in part n) ≡ Some (record { before = before; row = row_at part i })
-sought_here d part n i before h e s =
-    s.same ∙ ap (found d before) (rows_more part i n h)
-    ∙ cond-true (eqb (row_at part i).delivery d) (Some (record { before = before; row = row_at part i })) (found d (before + (row_at part i).pages) (rows_from part (i + 1) n)) (eq-eqb (row_at part i).delivery d e)
-
-pub sought_none : (d : ℕ) (part : List ℕ) (n i before : ℕ) → n ≤ i → Sought d part n i before → found d 0 (rows_in part n) ≡ None
-sought_none d part n i before h s = s.same ∙ ap (found d before) (rows_end part i n h)
+-- the search from the rows that are left, before which some pages stand
+pub record Sought (d : ℕ) (rows left : List Row) (before : ℕ) : Type 0 where
+  pub same : found d 0 rows ≡ found d before left
+  pub small : before + length left * 1048576 ≤ 268435456

@@ -8,11 +8,8 @@ use Rattle.stores.proofs.Filed.{part_sized}
 use Rattle.bundles.specs.Format.{Row, pages_in}
 use Rattle.bundles.specs.Contents.{Found, found, number_in, page_number, section_pages}
 
-nothing : {A X : Type 0} {x : X} → ◌≡◌ {A = Option X} None (Some x) → A
-nothing h = let z : ◌≡◌ {A = ℕ} 0 1 = cc in absurd (omega arith)
-
 found_within : (d b : ℕ) (rows : List Row) (x : Found) → found d b rows ≡ Some x → x.before + x.row.pages ≤ b + pages_in rows
-found_within d b [] x e = nothing e
+found_within d b [] x e = cc
 found_within d b (r ∷ rows) x e = go (eqb r.delivery d) (λ h. found_within d (b + r.pages) rows x h) e
   where
     go : (t : Bool) → (found d (b + r.pages) rows ≡ Some x → x.before + x.row.pages ≤ (b + r.pages) + pages_in rows) →
@@ -28,7 +25,7 @@ pub number_within : (d q : ℕ) (rows : List Row) (n : ℕ) → page_number d q 
 number_within d q rows n e = go (found d 0 rows) refl e
   where
     go : (o : Option Found) → found d 0 rows ≡ o → number_in q o ≡ Some n → n < pages_in rows
-    go None h j = nothing j
+    go None h j = cc
     go (Some x) h j = at (ltb q x.row.pages) refl j
       where
         at : (t : Bool) → ltb q x.row.pages ≡ t → cond t (Some (x.before + q)) None ≡ Some n → n < pages_in rows
@@ -37,20 +34,20 @@ number_within d q rows n e = go (found d 0 rows) refl e
             let w = found_within d 0 rows x h in
             let u = ltb-true q x.row.pages l in
             omega arith
-        at false l k = nothing k
+        at false l k = cc
 
 -- the part of a page that is held ends within section two
 pub part_within : (p d q : ℕ) (rows : List Row) (n size : ℕ) → size ≡ pages_in rows * p → page_number d q rows ≡ Some n → n * p + p ≤ size
 part_within p d q rows n size h e = let r = row n (pages_in rows) p (number_within d q rows n e) in omega arith
 
 pub section_sized : (p : ℕ) (rows : List Row) (pages k page : List ℕ) → length pages ≡ pages_in rows * p → section_pages p rows pages k ≡ Some page → length page ≡ p
-section_sized p rows pages [] page h e = nothing e
-section_sized p rows pages (d ∷ []) page h e = nothing e
+section_sized p rows pages [] page h e = cc
+section_sized p rows pages (d ∷ []) page h e = cc
 section_sized p rows pages (d ∷ (q ∷ [])) page h e = go (page_number d q rows) refl e
   where
     go : (o : Option ℕ) → page_number d q rows ≡ o → option_map (part_of p pages) o ≡ Some page → length page ≡ p
-    go None j k = nothing k
+    go None j k = cc
     go (Some n) j k =
         let s : part_of p pages n ≡ page = cc in
         ap length (sym s) ∙ part_sized p n pages (part_within p d q rows n (length pages) h j)
-section_sized p rows pages (d ∷ (q ∷ (x ∷ more))) page h e = nothing e
+section_sized p rows pages (d ∷ (q ∷ (x ∷ more))) page h e = cc

@@ -3,10 +3,12 @@
 -- first row's delivery first, and no byte after.
 --   two, four              the number of two or of four bytes that begins at a place
 --   Row, row_at, rows_in     a row; the i-th row of section one; its first n rows
+--   row_from, rows_from     a row of seven bytes by itself, and rows so
 --   count_of_rows, rows_part     D; the bytes of the rows
 --   count_of_pages, pages_part   N; the bytes of the pages
 --   listed_in, good_rows, pages_in   whether rows list a delivery; whether rows are as they must be; the sum of their page counts
---   have_rows, have_pages    the questions of the sections, without those of the rows
+--   fit_row               the questions of a row by itself
+--   have_rows, have_pages, pages_follow    the questions of the sections, without those of the rows
 --   bundle_refusal          the questions of opening a bundle, in their order
 use Rattle.std.specs.Prelude.{ℕ, ◌+◌, ◌*◌, Bool, true, false, cond, not, ◌&&◌, ◌||◌, List, [], ◌∷◌, ◌++◌, map, length, take, drop, Some, None, Option, ◌==◌, nat_le, slice_index}
 use Rattle.std.specs.List.{range_with_len}
@@ -32,6 +34,13 @@ row_at part i = record { delivery = two part (7 * i); unit = slice_index part (7
 abbrev pub rows_in : List ℕ → ℕ → List Row
 rows_in part n = map (row_at part) (range_with_len 0 n)
 
+-- a row of seven bytes by itself, and rows so
+abbrev pub row_from : List ℕ → Row
+row_from seven = row_at seven 0
+
+abbrev pub rows_from : List (List ℕ) → List Row
+rows_from rows = map row_from rows
+
 abbrev pub count_of_rows : List ℕ → ℕ
 count_of_rows bytes = two bytes 0
 
@@ -49,6 +58,10 @@ have_rows bytes = nat_le 2 (length bytes) && (nat_le (count_of_rows bytes) 256 &
 abbrev pub listed_in : ℕ → List Row → Bool
 listed_in d [] = false
 listed_in d (r ∷ rows) = r.delivery == d || listed_in d rows
+
+-- the questions of a row by itself
+abbrev pub fit_row : Row → Bool
+fit_row r = nat_le r.unit 1 && nat_le r.pages 1048576
 
 -- Has a row unit 0 or 1, at most 1,048,576 pages, and a delivery that no row before it lists?
 abbrev pub good_row : List Row → Row → Bool
@@ -80,6 +93,10 @@ abbrev pub have_pages : ℕ → List ℕ → Bool
 have_pages p bytes =
     nat_le (6 + 7 * count_of_rows bytes) (length bytes)
     && (count_of_pages bytes == pages_in (rows_of bytes) && length bytes == 6 + 7 * count_of_rows bytes + count_of_pages bytes * p)
+
+-- the same of a sum and the bytes after the rows
+abbrev pub pages_follow : ℕ → ℕ → List ℕ → Bool
+pages_follow p sum rest = nat_le 4 (length rest) && (four rest 0 == sum && length rest == 4 + sum * p)
 
 -- OPENING
 

@@ -1,7 +1,8 @@
-//! The bundle as a value.
+//! The bundle as a value, and its deliveries one after the other.
 
-ghost use Rattle.std.specs.Prelude.{◌≡◌, ◌*◌, ◌≤◌, length};
-ghost use Rattle.bundles.specs.Format.{rows_in, pages_in};
+ghost use Rattle.std.specs.Prelude.{◌≡◌, ◌*◌, ◌≤◌, true, length};
+ghost use Rattle.std.specs.List.{list_all};
+ghost use Rattle.bundles.specs.Format.{rows_from, fit_row, good_rows, pages_in};
 
 /// A bundle that was opened: a struct over the bytes given, with the parts of its two sections at their known places,
 ///
@@ -9,12 +10,18 @@ ghost use Rattle.bundles.specs.Format.{rows_in, pages_in};
 ///     from    0         2                 2 + 7·D   6 + 7·D
 #[derive(Clone, Copy)]
 pub struct Bundle<'a> {
-    pub(crate) rows: &'a [u8],
+    pub(crate) rows: &'a [[u8; 7]],
     pub(crate) pages: &'a [u8],
-    pub(crate) row_count: usize,
     pub(crate) page_size: usize,
     ghost sized: { 1 ≤ page_size },
-    ghost few: { row_count ≤ 256 },
-    ghost whole: { length rows.now ≡ 7 * row_count },
-    ghost exact: { length pages.now ≡ pages_in (rows_in rows.now row_count) * page_size },
+    ghost few: { length rows.now ≤ 256 },
+    ghost good: { good_rows (rows_from rows.now) ≡ true },
+    ghost exact: { length pages.now ≡ pages_in (rows_from rows.now) * page_size },
+}
+
+/// The deliveries that are still to come, in the order of the rows.
+#[derive(Drop)]
+pub struct Deliveries<'a> {
+    pub(crate) rows: &'a [[u8; 7]],
+    ghost fit: { list_all fit_row (rows_from rows.now) ≡ true },
 }

@@ -4,10 +4,10 @@
 #![tactic(auto)]
 
 mod bundle;
+mod deliveries;
 mod opening;
 mod reading;
 mod rows;
 
-pub use bundle::Bundle;
-pub use reading::Delivery;
-pub use rows::AmountUnit;
+pub use bundle::{Bundle, Deliveries};
+pub use rows::{AmountUnit, Delivery};

@@ -1,6 +1,6 @@
 //! What an open bundle answers: its rows, and the calls of a store.
 
-ghost use Rattle.std.specs.Prelude.{◌≡◌, ℕ, ◌+◌, ◌*◌, ◌<◌, ◌≤◌, length, IfSome, Some, None, MatchResult};
+ghost use Rattle.std.specs.Prelude.{◌≡◌, ℕ, ◌+◌, ◌*◌, ◌<◌, ◌≤◌, List, [], ◌∷◌, length, Some, None, IfOk, IfErr, MatchResult};
 ghost use Rattle.std.specs.Option.{option_map};
 ghost use Rattle.std.specs.Result.{result_ok};
 ghost use Rattle.std.specs.List.{slice_get};
@@ -8,54 +8,36 @@ ghost use Rattle.stores.specs.Faults.{refused};
 ghost use Rattle.stores.specs.declared.faults.StoreFault.TheVariants.{NotHeld};
 ghost use Rattle.bundles.specs.Format.{pages_in};
 ghost use Rattle.bundles.specs.Contents.{found, page_number};
-ghost use Rattle.bundles.specs.Bundles.{listed_by, meant_by, unit_of, listed, listing_of, place_of, unit_in, pages_of, unlisted};
+ghost use Rattle.bundles.specs.Bundles.{listed_by, meant_by, listed, listing_of, place_of, unit_in, pages_of, unlisted};
 
 use crate::bundle::Bundle;
-use crate::rows::{AmountUnit, RowRecord, row_at};
+use crate::rows::{AmountUnit, Delivery, checked_row};
 use keys::{DeliveryKey, DeliveryNo};
 use stores::{Store, StoreFault};
 
-/// A row that lists a delivery, and how many pages stand before its own.
+/// A delivery, and how many pages stand before its own.
 #[derive(Clone, Copy)]
 pub struct Place {
     pub before: usize,
-    pub row: RowRecord,
-}
-
-/// A delivery as its row lists it.
-#[derive(Clone, Copy, PartialEq, Eq, Debug)]
-pub struct Delivery {
-    pub number: DeliveryNo,
-    pub unit: AmountUnit,
-    pub pages: u32,
-}
-
-// The unit of a row's number.
-fn unit_numbered(n: u8) -> AmountUnit
-    ensures { result ≡ unit_of n }
-{
-    if n == 0 {
-        AmountUnit::Whole
-    } else {
-        AmountUnit::Thousands
-    }
+    pub delivery: Delivery,
 }
 
 impl Bundle<'_> {
-    // The row that lists the delivery.
-    fn find(&self, delivery: DeliveryNo) -> Option<Place>
-        ensures answer { option_map place_of result ≡ found delivery.0 0 (listed_by self.now) }
-        ensures small { IfSome result (λ x. x.before ≤ 1099511627776) }
+    // The place of the delivery's pages.
+    // stays: a search of at most 256 rows. They are not sorted, and a map would need memory, which no call of a store takes.
+    fn find(&self, number: DeliveryNo) -> Result<Place, StoreFault>
+        ensures answer { option_map place_of (result_ok result) ≡ found number.0 0 (listed_by self.now) }
+        ensures refusal { IfErr result (λ f. f ≡ NotHeld) }
+        ensures small { IfOk result (λ x. x.before ≤ 268435456) }
     {
-        let mut before: usize = 0;
-        for i in 0..self.row_count {
-            let row = row_at(self.rows, i);
-            if row.delivery.0 == delivery.0 {
-                return Some(Place { before, row });
+        let mut before = 0;
+        for delivery in self.deliveries() {
+            if delivery.number == number {
+                return Ok(Place { before, delivery });
             }
-            before += row.pages as usize;
+            before += delivery.pages as usize;
         }
-        None
+        Err(StoreFault::NotHeld)
     }
 
     // The place of the key's page among all pages.
@@ -64,20 +46,29 @@ impl Bundle<'_> {
             (λ n. page_number key.now.delivery.0 key.now.page.0 (listed_by self.now) ≡ Some n)
             (λ f. (page_number key.now.delivery.0 key.now.page.0 (listed_by self.now) ≡ None) × (f ≡ NotHeld)) }
     {
-        let Some(place) = self.find(key.delivery) else {
-            return Err(StoreFault::NotHeld);
-        };
-        if key.page.0 >= place.row.pages {
+        let place = self.find(key.delivery)?;
+        if key.page.0 >= place.delivery.pages {
             return Err(StoreFault::NotHeld);
         }
         Ok(place.before + key.page.0 as usize)
+    }
+
+    // The key's page.
+    #[tactic(auto, using(crate::proofs::Placed::part_within))]
+    fn page(&self, key: &DeliveryKey) -> Result<&[u8], StoreFault>
+        ensures { MatchResult result
+            (λ page. ((meant_by self.now).pages (key.now.delivery.0 ∷ (key.now.page.0 ∷ [])) ≡ Some page.now) × (length page.now ≡ self.now.page_size))
+            (λ f. ((meant_by self.now).pages (key.now.delivery.0 ∷ (key.now.page.0 ∷ [])) ≡ None) × (f ≡ NotHeld)) }
+    {
+        let at = self.locate(key)? * self.page_size;
+        Ok(&self.pages[at..at + self.page_size])
     }
 
     /// How many deliveries the bundle lists.
     pub fn row_count(&self) -> usize
         ensures { result ≡ length (listed_by self.now) }
     {
-        self.row_count
+        self.rows.len()
     }
 
     /// How many pages the bundle has in all.
@@ -91,15 +82,8 @@ impl Bundle<'_> {
     pub fn row(&self, i: usize) -> Option<Delivery>
         ensures { option_map listing_of result ≡ option_map listed (slice_get (listed_by self.now) i) }
     {
-        if i >= self.row_count {
-            return None;
-        }
-        let row = row_at(self.rows, i);
-        Some(Delivery {
-            number: row.delivery,
-            unit: unit_numbered(row.unit),
-            pages: row.pages,
-        })
+        let row = self.rows.get(i)?;
+        Some(checked_row(row))
     }
 
     /// The unit of a delivery's amounts.
@@ -107,10 +91,7 @@ impl Bundle<'_> {
         ensures answer { result_ok result ≡ unit_in delivery.0 (listed_by self.now) }
         ensures refusal { refused result ≡ unlisted delivery.0 (listed_by self.now) }
     {
-        match self.find(delivery) {
-            None => Err(StoreFault::NotHeld),
-            Some(place) => Ok(unit_numbered(place.row.unit)),
-        }
+        Ok(self.find(delivery)?.delivery.unit)
     }
 
     /// How many pages a delivery has.
@@ -118,13 +99,11 @@ impl Bundle<'_> {
         ensures answer { result_ok result ≡ pages_of delivery.0 (listed_by self.now) }
         ensures refusal { refused result ≡ unlisted delivery.0 (listed_by self.now) }
     {
-        match self.find(delivery) {
-            None => Err(StoreFault::NotHeld),
-            Some(place) => Ok(place.row.pages),
-        }
+        Ok(self.find(delivery)?.delivery.pages)
     }
 }
 
+// stays: `holds` and `read` read as the work file's do. A body in the trait would ask every store to have its pages as bytes.
 impl Store<DeliveryKey> for Bundle<'_> {
     ghost meant = { meant_by };
 
@@ -137,16 +116,14 @@ impl Store<DeliveryKey> for Bundle<'_> {
     }
 
     fn holds(&self, key: &DeliveryKey) -> bool {
-        self.locate(key).is_ok()
+        self.page(key).is_ok()
     }
 
     fn read(&mut self, key: &DeliveryKey, buffer: &mut [u8]) -> Result<(), StoreFault> {
         if buffer.len() != self.page_size {
             return Err(StoreFault::BufferLength);
         }
-        let at = self.locate(key)? * self.page_size;
-        let end = at + self.page_size;
-        buffer.copy_from_slice(&self.pages[at..end]);
+        buffer.copy_from_slice(self.page(key)?);
         Ok(())
     }
 

@@ -1,16 +1,17 @@
-//! The rows of section one, read out of its bytes: the loops that check and add them. Callers see bundles only.
+//! The rows of section one: a delivery out of seven bytes, and the loop that checks and adds rows.
 
-ghost use Rattle.std.specs.Prelude.{◌≡◌, ℕ, ◌+◌, ◌*◌, ◌<◌, ◌≤◌, true, false, length, MatchResult};
+ghost use Rattle.std.specs.Prelude.{◌≡◌, ℕ, ◌+◌, ◌*◌, ◌<◌, ◌≤◌, ◌==◌, true, false, length, Some, MatchResult};
+ghost use Rattle.std.specs.List.{list_any};
 ghost use Rattle.stores.specs.declared.faults.StoreFault.TheVariants.{Row as RowFault};
-ghost use Rattle.bundles.specs.Format.{two, four, row_at, rows_in, listed_in, good_row, good_rows, pages_in};
+ghost use Rattle.bundles.specs.Format.{two, row_from, rows_from, fit_row, good_rows, pages_in};
+ghost use Rattle.bundles.specs.Bundles.{unit_word, unit_number, UnitGives, RowGives, row_of};
 
 use keys::DeliveryNo;
+use std::fmt;
 use stores::StoreFault;
 
 /// The most pages that a delivery may have.
 const MOST_PAGES: u32 = 1_048_576;
-
-const ROW_BYTES: usize = 7;
 
 /// What the amounts of a delivery count.
 #[derive(Clone, Copy, PartialEq, Eq, Debug)]
@@ -21,80 +22,110 @@ pub enum AmountUnit {
     Thousands,
 }
 
-/// A row as its bytes have it.
-#[derive(Clone, Copy)]
-pub struct RowRecord {
-    pub delivery: DeliveryNo,
-    pub unit: u8,
+/// A unit is written as a word.
+impl fmt::Display for AmountUnit {
+    ghost output = { λ u. Some (unit_word u) };
+
+    fn fmt<W: fmt::Write>(&self, f: &mut fmt::Formatter<W>) -> fmt::Result {
+        f.write_str(match self {
+            AmountUnit::Whole => "whole",
+            AmountUnit::Thousands => "thousands",
+        })
+    }
+}
+
+/// The number of a unit in a row.
+impl From<AmountUnit> for u8 {
+    ghost from_gives = { λ u r. r ≡ unit_number u };
+
+    fn from(unit: AmountUnit) -> u8 {
+        match unit {
+            AmountUnit::Whole => 0,
+            AmountUnit::Thousands => 1,
+        }
+    }
+}
+
+/// A unit by its number in a row.
+impl TryFrom<u8> for AmountUnit {
+    type Error = StoreFault;
+
+    ghost try_from_gives = { UnitGives };
+
+    fn try_from(number: u8) -> Result<Self, StoreFault> {
+        match number {
+            0 => Ok(AmountUnit::Whole),
+            1 => Ok(AmountUnit::Thousands),
+            _ => Err(StoreFault::Row),
+        }
+    }
+}
+
+/// A delivery as its row lists it.
+#[derive(Clone, Copy, PartialEq, Eq, Debug)]
+pub struct Delivery {
+    pub number: DeliveryNo,
+    pub unit: AmountUnit,
     pub pages: u32,
 }
 
-/// The little-endian number of two bytes at a place.
-pub(crate) fn two_bytes(bytes: &[u8], at: usize) -> u16
-    requires { at + 2 ≤ length bytes.now }
-    ensures { result ≡ two bytes.now at }
+// The number of a row's delivery.
+fn number_in(row: &[u8; 7]) -> DeliveryNo
+    ensures { result.0 ≡ two row.now 0 }
 {
-    bytes[at] as u16 + 256 * bytes[at + 1] as u16
+    DeliveryNo(u16::from_le_bytes([row[0], row[1]]))
 }
 
-/// The little-endian number of four bytes at a place.
-pub(crate) fn four_bytes(bytes: &[u8], at: usize) -> u32
-    requires { at + 4 ≤ length bytes.now }
-    ensures { result ≡ four bytes.now at }
-{
-    two_bytes(bytes, at) as u32 + 65_536 * two_bytes(bytes, at + 2) as u32
-}
+/// A delivery out of the bytes of its row, if unit and page count are as they must be.
+impl TryFrom<[u8; 7]> for Delivery {
+    type Error = StoreFault;
 
-/// The i-th row.
-pub(crate) fn row_at(rows: &[u8], i: usize) -> RowRecord
-    requires { 7 * i + 7 ≤ length rows.now }
-    ensures delivery { result.delivery.0 ≡ (row_at rows.now i).delivery }
-    ensures unit { result.unit ≡ (row_at rows.now i).unit }
-    ensures pages { result.pages ≡ (row_at rows.now i).pages }
-{
-    let at = ROW_BYTES * i;
-    RowRecord {
-        delivery: DeliveryNo(two_bytes(rows, at)),
-        unit: rows[at + 2],
-        pages: four_bytes(rows, at + 3),
-    }
-}
+    ghost try_from_gives = { RowGives };
 
-/// Whether one of the first `n` rows lists the delivery.
-pub(crate) fn listed_before(rows: &[u8], n: usize, delivery: DeliveryNo) -> bool
-    requires { 7 * n ≤ length rows.now }
-    ensures { result ≡ listed_in delivery.0 (rows_in rows.now n) }
-{
-    for i in 0..n {
-        if row_at(rows, i).delivery.0 == delivery.0 {
-            return true;
+    fn try_from(row: [u8; 7]) -> Result<Self, StoreFault> {
+        let [_, _, unit, p0, p1, p2, p3] = row;
+        let unit = AmountUnit::try_from(unit)?;
+        let pages = u32::from_le_bytes([p0, p1, p2, p3]);
+        if pages > MOST_PAGES {
+            return Err(StoreFault::Row);
         }
+        Ok(Delivery {
+            number: number_in(&row),
+            unit,
+            pages,
+        })
     }
-    false
 }
 
-/// Whether the i-th row is as it must be, after the rows before it.
-pub(crate) fn row_is_good(rows: &[u8], i: usize, row: RowRecord) -> bool
-    requires { (7 * i + 7 ≤ length rows.now) × ((row.delivery.0 ≡ (row_at rows.now i).delivery) × ((row.unit ≡ (row_at rows.now i).unit) × (row.pages ≡ (row_at rows.now i).pages))) }
-    ensures { result ≡ good_row (rows_in rows.now i) (row_at rows.now i) }
+/// What a row that was checked lists.
+pub(crate) fn checked_row(row: &[u8; 7]) -> Delivery
+    requires { fit_row (row_from row.now) ≡ true }
+    ensures { row_of result ≡ row_from row.now }
 {
-    row.unit <= 1 && row.pages <= MOST_PAGES && !listed_before(rows, i, row.delivery)
+    Delivery::try_from(*row).unwrap()
+}
+
+// Whether one of the rows lists the delivery.
+fn is_listed(rows: &[[u8; 7]], number: DeliveryNo) -> bool
+    ensures { result ≡ list_any (λ row. two row 0 == number.0) rows.now }
+{
+    rows.iter().any(|row| number_in(row) == number)
 }
 
 /// The sum of the page counts, if each row is as it must be.
-pub(crate) fn add_rows(rows: &[u8], count: usize) -> Result<u32, StoreFault>
-    requires { (7 * count ≤ length rows.now) × (count ≤ 256) }
+pub(crate) fn add_rows(rows: &[[u8; 7]]) -> Result<u32, StoreFault>
+    requires { length rows.now ≤ 256 }
     ensures { MatchResult result
-        (λ n. (good_rows (rows_in rows.now count) ≡ true) × (n ≡ pages_in (rows_in rows.now count)) × (n ≤ 268435456))
-        (λ f. (good_rows (rows_in rows.now count) ≡ false) × (f ≡ RowFault)) }
+        (λ n. (good_rows (rows_from rows.now) ≡ true) × (n ≡ pages_in (rows_from rows.now)) × (n ≤ 268435456))
+        (λ f. (good_rows (rows_from rows.now) ≡ false) × (f ≡ RowFault)) }
 {
-    let mut sum: u32 = 0;
-    for i in 0..count {
-        let row = row_at(rows, i);
-        if !row_is_good(rows, i, row) {
+    let mut sum = 0;
+    for (i, row) in rows.iter().enumerate() {
+        let delivery = Delivery::try_from(*row)?;
+        if is_listed(&rows[..i], delivery.number) {
             return Err(StoreFault::Row);
         }
-        sum += row.pages;
+        sum += delivery.pages;
     }
     Ok(sum)
 }

@@ -5,8 +5,7 @@
 mod demo;
 mod simulate;
 
-use anyhow::anyhow;
-use std::alloc::Global;
+use anyhow::{anyhow, bail};
 use std::process::ExitCode;
 use std::{env, fs};
 
@@ -20,8 +19,7 @@ usage:
 ";
 
 fn main(rt: HostRuntime) -> ExitCode {
-    let heap = rt.alloc();
-    match run(&rt, heap) {
+    match run(&rt) {
         Ok(()) => ExitCode::SUCCESS,
         Err(e) => match eprintln!(rt; "cabinet: {e}") {
             Ok(()) | Err(_) => ExitCode::FAILURE,
@@ -29,50 +27,37 @@ fn main(rt: HostRuntime) -> ExitCode {
     }
 }
 
-// The words of the call, without the program's own name.
-fn words(rt: &HostRuntime, heap: Global) -> anyhow::Result<Vec<String>> {
-    let mut all = Vec::new(heap);
-    for word in env::args(rt)?.skip(1) {
-        all.push(word)?;
-    }
-    Ok(all)
-}
-
-fn run(rt: &HostRuntime, heap: Global) -> anyhow::Result<()> {
-    let words = words(rt, heap)?;
+fn run(rt: &HostRuntime) -> anyhow::Result<()> {
+    // The words of the call, without the program's own name.
+    let words: Vec<String> = env::args(rt)?.skip(1).collect(rt.alloc())?;
     let Some(first) = words.first() else {
-        return demo::run(rt, heap);
+        return demo::run(rt);
     };
     match first.as_str() {
         "help" => {
             rt.print(USAGE)?;
             Ok(())
         }
-        "bundle" => bundle(rt, heap, words.as_slice()),
-        "machine" => simulate::run(rt, heap, &words.as_slice()[1..]),
+        "bundle" => bundle(rt, words.as_slice()),
+        "machine" => simulate::run(rt, &words.as_slice()[1..]),
         other => {
             rt.print(USAGE)?;
-            Err(anyhow!("there is no word {other}"))
+            bail!("there is no word {other}")
         }
     }
 }
 
 // `bundle P FILE`: a line for each delivery, or the refusal.
-fn bundle(rt: &HostRuntime, heap: Global, words: &[String]) -> anyhow::Result<()> {
+fn bundle(rt: &HostRuntime, words: &[String]) -> anyhow::Result<()> {
     let [_, size, file] = words else {
         rt.print(USAGE)?;
-        return Err(anyhow!("bundle takes a page size and a file"));
+        bail!("bundle takes a page size and a file");
     };
-    let Ok(page_size) = size.as_str().parse::<usize>() else {
-        return Err(anyhow!("the page size {size} is not a number"));
-    };
-    let bytes = match fs::read(rt, file.as_str()) {
-        Ok(bytes) => bytes,
-        Err(e) => {
-            return Err(anyhow!("cannot read {file}: {e}"));
-        }
-    };
-    let text = console::describe(heap, bytes.as_slice(), page_size)?;
+    let page_size = size
+        .parse()
+        .map_err(|_| anyhow!("the page size {size} is not a number"))?;
+    let bytes = fs::read(rt, file).map_err(|e| anyhow!("cannot read {file}: {e}"))?;
+    let text = console::describe(rt.alloc(), bytes.as_slice(), page_size)?;
     rt.print(text.as_str())?;
     Ok(())
 }

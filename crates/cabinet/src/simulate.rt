@@ -4,59 +4,36 @@
 //!     KEY+    borrows the key and keeps the loan
 //!     -KEY    returns one loan of the key
 
-use anyhow::anyhow;
-use keys::{DeliveryKey, DeliveryNo, Key, PageNo};
-use plain::calls::{Granted, Outcome};
-use plain::{OpenError, Plain};
+use anyhow::{bail, ensure};
+use keys::{DeliveryKey, Key, NotAKey, PageNo};
+use plain::{Letters, Plain};
 use std::alloc::{AllocError, Global};
-use std::fmt::Display;
+use std::fmt::{Display, Write};
+use std::str::FromStr;
 
-// A kind of key that can be read from a word.
-trait Readable: Sized {
-    fn from_word(word: &str) -> Option<Self>;
-}
-
-impl Readable for PageNo {
-    fn from_word(word: &str) -> Option<PageNo> {
-        match word.parse::<u32>() {
-            Ok(page) => Some(PageNo(page)),
-            Err(_) => None,
-        }
-    }
-}
-
-impl Readable for DeliveryKey {
-    fn from_word(word: &str) -> Option<DeliveryKey> {
-        let Some((delivery, page)) = word.split_once('/') else {
-            return None;
-        };
-        match (delivery.parse::<u16>(), page.parse::<u32>()) {
-            (Ok(delivery), Ok(page)) => Some(DeliveryKey {
-                delivery: DeliveryNo(delivery),
-                page: PageNo(page),
-            }),
-            _ => None,
-        }
-    }
+// What becomes of the loan of a borrow.
+#[derive(Clone, Copy, PartialEq, Eq)]
+enum Loan {
+    Returned,
+    Kept,
 }
 
 // What a word asks for.
 #[derive(Clone, Copy)]
 enum Deed {
-    Once,
-    Keep,
-    Back,
+    Borrow(Loan),
+    Return,
 }
 
 // The deed of a word, and the part of it that names the key.
 fn read_word(word: &str) -> (Deed, &str) {
     if let Some(rest) = word.strip_prefix('-') {
-        return (Deed::Back, rest);
+        return (Deed::Return, rest);
     }
     if let Some(rest) = word.strip_suffix('+') {
-        return (Deed::Keep, rest);
+        return (Deed::Borrow(Loan::Kept), rest);
     }
-    (Deed::Once, word)
+    (Deed::Borrow(Loan::Returned), word)
 }
 
 // The ring, tail first, as ` 1H 4Ct 2H`.
@@ -67,52 +44,26 @@ fn ring_text<K: Key + Copy + Display>(
     let mut text = String::new(heap);
     for entry in plain.entries() {
         let key = entry.key;
-        let letters = entry.letters();
-        let part = format!(in heap; " {key}{letters}")?;
-        text.push_str(part.as_str())?;
+        let letters = Letters::from(entry);
+        write!(text, " {key}{letters}")?;
     }
     Ok(text)
 }
 
-fn outcome_text(outcome: Outcome) -> &'static str {
-    match outcome {
-        Outcome::Hit => "hit",
-        Outcome::TestFault => "test fault",
-        Outcome::ColdFault => "cold fault",
-    }
-}
-
-// The report of a granted borrow, as `test fault, victim 3, steps 1 1 0, c 1`.
-fn report_text<K: Copy + Display>(
-    heap: Global,
-    granted: &Granted<K>,
-) -> Result<String, AllocError> {
-    let report = granted.report;
-    let outcome = outcome_text(report.outcome);
-    let victim = match report.victim {
-        Some(key) => format!(in heap; "{key}")?,
-        None => String::from_str(heap, "none")?,
-    };
-    let cold = report.steps.cold;
-    let hot = report.steps.hot;
-    let test = report.steps.test;
-    let c = report.cold;
-    format!(in heap; "{outcome}, victim {victim}, steps {cold} {hot} {test}, c {c}")
-}
-
-// What a borrow answers; its loan is returned unless it is to be kept.
+// What a borrow answers.
 fn borrow<K: Key + Copy + Display>(
     heap: Global,
     plain: &mut Plain<K>,
     key: K,
-    keep: bool,
+    loan: Loan,
 ) -> Result<String, AllocError> {
     match plain.borrow(key) {
         Ok(granted) => {
-            if !keep {
+            if loan == Loan::Returned {
                 plain.give_back(granted.frame);
             }
-            report_text(heap, &granted)
+            let report = granted.report;
+            format!(in heap; "{report}")
         }
         Err(refusal) => {
             let number = refusal.number();
@@ -123,33 +74,30 @@ fn borrow<K: Key + Copy + Display>(
 
 // What a return of one loan of the key answers, if it has one.
 fn give_back<K: Key + Copy>(plain: &mut Plain<K>, key: K) -> bool {
-    match plain.frame_of(key) {
-        Some(frame) => plain.give_back(frame),
-        None => false,
-    }
+    let Some(frame) = plain.frame_of(key) else {
+        return false;
+    };
+    plain.give_back(frame)
 }
 
 // Does what the word asks for and prints what came of it; the answer is no where the word could not be taken.
-fn play_word<K: Key + Copy + Display + Readable>(
+fn play_word<K: Key + Copy + Display + FromStr<Err = NotAKey>>(
     rt: &HostRuntime,
-    heap: Global,
     plain: &mut Plain<K>,
     word: &str,
 ) -> anyhow::Result<bool> {
+    let heap = rt.alloc();
     let (deed, rest) = read_word(word);
-    let Some(key) = K::from_word(rest) else {
+    let Ok(key) = rest.parse::<K>() else {
         println!(rt; "{word} => error: {rest} is not a key of this kind")?;
         return Ok(false);
     };
     let answer = match deed {
-        Deed::Once => borrow(heap, plain, key, false)?,
-        Deed::Keep => borrow(heap, plain, key, true)?,
-        Deed::Back => {
-            if !give_back(plain, key) {
-                println!(rt; "{word} => error: there is no loan of {key}")?;
-                return Ok(false);
-            }
-            String::from_str(heap, "returned")?
+        Deed::Borrow(loan) => borrow(heap, plain, key, loan)?,
+        Deed::Return if give_back(plain, key) => String::from_str(heap, "returned")?,
+        Deed::Return => {
+            println!(rt; "{word} => error: there is no loan of {key}")?;
+            return Ok(false);
         }
     };
     let ring = ring_text(heap, plain)?;
@@ -157,63 +105,40 @@ fn play_word<K: Key + Copy + Display + Readable>(
     Ok(true)
 }
 
-fn open<K: Key + Copy>(heap: Global, frames: u32) -> anyhow::Result<Plain<K>> {
-    match Plain::<K>::open(heap, frames) {
-        Ok(plain) => Ok(plain),
-        Err(OpenError::FrameCount) => Err(anyhow!("the number of frames is not from 2 to 4096")),
-        Err(OpenError::Memory) => Err(anyhow!("there is no memory for so many frames")),
-    }
-}
-
-fn play<K: Key + Copy + Display + Readable + Drop>(
+fn play<K: Key + Copy + Display + FromStr<Err = NotAKey> + Drop>(
     rt: &HostRuntime,
-    heap: Global,
     frames: u32,
     words: &[String],
 ) -> anyhow::Result<()> {
-    let mut plain = open::<K>(heap, frames)?;
+    let mut plain = Plain::<K>::open(rt.alloc(), frames)?;
     let mut all = true;
     for word in words {
-        if !play_word(rt, heap, &mut plain, word.as_str())? {
-            all = false;
-        }
+        all &= play_word(rt, &mut plain, word.as_str())?;
     }
-    if all {
-        Ok(())
-    } else {
-        Err(anyhow!("not every word could be taken"))
-    }
+    ensure!(all, "not every word could be taken");
+    Ok(())
 }
 
 // The same words that a caller could give, for the demonstration.
-pub(crate) fn sample(
-    rt: &HostRuntime,
-    heap: Global,
-    frames: u32,
-    words: &str,
-) -> anyhow::Result<()> {
-    let mut plain = open::<PageNo>(heap, frames)?;
+pub(crate) fn sample(rt: &HostRuntime, frames: u32, words: &str) -> anyhow::Result<()> {
+    let mut plain = Plain::<PageNo>::open(rt.alloc(), frames)?;
     for word in words.split(' ') {
-        play_word(rt, heap, &mut plain, word)?;
+        play_word(rt, &mut plain, word)?;
     }
     Ok(())
 }
 
 // The words after `machine`: the number of frames and the keys, all of one kind. The first key tells which.
-pub(crate) fn run(rt: &HostRuntime, heap: Global, words: &[String]) -> anyhow::Result<()> {
+pub(crate) fn run(rt: &HostRuntime, words: &[String]) -> anyhow::Result<()> {
     let [frames, keys @ ..] = words else {
-        return Err(anyhow!("machine takes a number of frames and keys"));
+        bail!("machine takes a number of frames and keys");
     };
     let Ok(frames) = frames.as_str().parse::<u32>() else {
-        return Err(anyhow!("the number of frames is not a number"));
+        bail!("the number of frames is not a number");
     };
-    let delivery = match keys.first() {
-        Some(word) => word.as_str().find('/').is_some(),
-        None => false,
-    };
-    if delivery {
-        play::<DeliveryKey>(rt, heap, frames, keys)
+    if keys.first().is_some_and(|word| word.as_str().contains('/')) {
+        play::<DeliveryKey>(rt, frames, keys)
     } else {
-        play::<PageNo>(rt, heap, frames, keys)
+        play::<PageNo>(rt, frames, keys)
     }
 }

@@ -1,20 +1,21 @@
 -- One chain is changed: what that does to the shape, and that every chain is still sound.
 use Rattle.std.proofs.Common.{◌≡◌, ℕ, zero, suc, ◌<◌, Bool, true, false, cond, eqb, List, [], ◌∷◌, ◌++◌, length, get_or, set, Some, None, Option, sym, refl, ap, ◌∙◌, subst, inl, inr, arith}
 use mathlib.Core.Path.{fun_ext}
-use Rattle.std.specs.List.{AllByRecursion}
+use Rattle.std.specs.List.{AllByRecursion, ContainsAt}
+use Rattle.std.specs.Option.{IsSome}
 use Rattle.std.proofs.lemmas.List.{get_or-set_same, get_or-set_other, get_or_past, append-nil}
-use Rattle.std.proofs.lemmas.Bool.{cases_eq, cases_lt, eq-eqb, ne_eqb, cond-true, cond-false, eqb-true, eqb-false}
-use Rattle.chains.specs.Cells.{place, entry_of, slot_of, vacant, Framed, Stored, Slotted}
-use Rattle.chains.specs.Orders.{order_of, Sound, Chained, without, walk, Apart, Misses}
+use Rattle.std.proofs.lemmas.Bool.{cases_eq, cases_lt, eq-eqb, ne_eqb, cond-true, cond-false}
+use Rattle.chains.specs.Cells.{place, next_of, entry_of, slot_of, vacant, Framed, Stored, Slotted}
+use Rattle.chains.specs.Orders.{order_of, Sound, without, walk, Apart, Misses}
 use Rattle.chains.specs.declared.cell.Cell.{Cell}
-use Rattle.chains.specs.declared.link.Ends.{Ends}
+use Rattle.chains.specs.declared.ends.Ends.{Ends}
 use Rattle.chains.specs.declared.cell.Chain.{Chain}
 use Rattle.chains.specs.declared.cell.Chain.TheVariants.{Ring, Cold, Test, Free}
 use Rattle.chains.proofs.Rounds.{without_none}
-use Rattle.chains.proofs.Splices.{order_is, sound_from}
+use Rattle.chains.proofs.Room.{misses_without}
 use Rattle.chains.proofs.Framing.{sound_kept, order_kept, sound_stored, order_stored, sound_slotted, order_slotted}
 use Rattle.chains.specs.declared.Chains.{Chains}
-use Rattle.chains.specs.Shape.{Shape, no_ends, ends_at, shape_of, Intact, same, stored, slotted, head_of, unlinked, turned, followed, stayed}
+use Rattle.chains.specs.Shape.{Shape, ends_at, shape_of, Intact, same, stored, slotted, head_of, unlinked, turned, followed}
 
 -- places tell the chains apart
 abbrev chain_of : ℕ → Chain
@@ -37,16 +38,16 @@ shape_is {T} s t a b c d =
     let f : s.slot ≡ t.slot = fun_ext d in
     λ i. record { size = a i; order = o i; entry = e i; slot = f i }
 
-module _ {T : Type 0} (c c' : List (Cell T)) (cs cs' : Chains) (w : Chain) (ch : Ends) (F : List ℕ → List ℕ)
+module _ {T : Type 0} (c c' : List (Cell T)) (cs cs' : Chains) (w : Chain) (ch : Option Ends) (F : List ℕ → List ℕ)
     (f : Framed c c' w) (sound : Sound c' w ch) (order : order_of c' w ch ≡ F (order_of c w (ends_at cs w)))
     (put : cs'.ends ≡ set cs.ends (place w) ch) (room : place w < length cs.ends) where
   chain_here : ends_at cs' w ≡ ch
-  chain_here = ap (λ l. get_or l (place w) no_ends) put ∙ get_or-set_same cs.ends (place w) ch no_ends room
+  chain_here = ap (λ l. get_or l (place w) None) put ∙ get_or-set_same cs.ends (place w) ch None room
 
   chain_there : (v : Chain) → (place v ≡ place w → ⊥) → ends_at cs' v ≡ ends_at cs v
-  chain_there v ne = ap (λ l. get_or l (place v) no_ends) put ∙ get_or-set_other cs.ends (place w) (place v) ch no_ends ne
+  chain_there v ne = ap (λ l. get_or l (place v) None) put ∙ get_or-set_other cs.ends (place w) (place v) ch None ne
 
-  pub intact_one : Intact c cs → Intact c' cs'
+  intact_one : Intact c cs → Intact c' cs'
   unfolding Intact
   intact_one k v = elim (cases_eq (place v) (place w)) [
     | inl e ↦ subst (λ v. Sound c' v (ends_at cs' v)) (sym (place_apart v w e)) (subst (λ x. Sound c' w x) (sym chain_here) sound)
@@ -61,9 +62,13 @@ module _ {T : Type 0} (c c' : List (Cell T)) (cs cs' : Chains) (w : Chain) (ch :
         ∙ sym (cond-false (same v w) _ _ (ne_eqb (place v) (place w) ne))
   ]
 
-  pub shape_one : shape_of c' cs' ≡ record { size = (shape_of c cs).size; order = λ v. cond (same v w) (F ((shape_of c cs).order v)) ((shape_of c cs).order v); entry = (shape_of c cs).entry; slot = (shape_of c cs).slot }
+  shape_one : shape_of c' cs' ≡ record { size = (shape_of c cs).size; order = λ v. cond (same v w) (F ((shape_of c cs).order v)) ((shape_of c cs).order v); entry = (shape_of c cs).entry; slot = (shape_of c cs).slot }
   unfolding shape_of
   shape_one = shape_is _ _ f.size order_one f.entries f.slots
+
+  pub one_changed : Intact c cs
+      → Intact c' cs' × (shape_of c' cs' ≡ record { size = (shape_of c cs).size; order = λ v. cond (same v w) (F ((shape_of c cs).order v)) ((shape_of c cs).order v); entry = (shape_of c cs).entry; slot = (shape_of c cs).slot })
+  one_changed k = (intact_one k, shape_one)
 
 -- an entry is written
 module _ {T : Type 0} {c c' : List (Cell T)} {i : ℕ} {e : Option T} (f : Stored c c' i e) (cs : Chains) where
@@ -98,32 +103,39 @@ module _ {T : Type 0} {c c' : List (Cell T)} {i x : ℕ} (f : Slotted c c' i x) 
   shape_slotted = shape_is _ _ f.size (λ v. order_slotted f v (ends_at cs v)) f.entries slot_one
 
 -- what a chain that is intact is known for
+module _ {T : Type 0} (c : List (Cell T)) (w : Chain) where
+  sound_apart : (o : Option Ends) → Sound c w o → Apart (order_of c w o)
+  unfolding order_of Sound
+  sound_apart None s = tt
+  sound_apart (Some ch) s = s.apart
+
+  sound_within : (o : Option Ends) → Sound c w o → AllByRecursion (λ j. j < length c) (order_of c w o)
+  unfolding order_of Sound
+  sound_within None s = tt
+  sound_within (Some ch) s = s.within
+
 module _ {T : Type 0} (c : List (Cell T)) (cs : Chains) (k : Intact c cs) (w : Chain) where
   pub order_apart : Apart ((shape_of c cs).order w)
-  unfolding shape_of Intact Sound
-  order_apart = (k w).apart
+  unfolding shape_of Intact
+  order_apart = sound_apart c w (ends_at cs w) (k w)
 
   pub order_inside : AllByRecursion (λ j. j < (shape_of c cs).size) ((shape_of c cs).order w)
-  unfolding shape_of Intact Sound
-  order_inside = (k w).within
+  unfolding shape_of Intact
+  order_inside = sound_within c w (ends_at cs w) (k w)
 
 -- the tail is the first of the order
-walk_none : (n : ℕ → ℕ) (x k : ℕ) → k ≡ 0 → head_of (walk n x k) ≡ None
-walk_none n x zero e = refl
-walk_none n x (suc k) e = let z : ⊥ = omega arith in absurd z
+walk_some : (n : ℕ → ℕ) (x k : ℕ) → 0 < k → head_of (walk n x k) ≡ Some x
+walk_some n x zero l = let z : ⊥ = omega arith in absurd z
+walk_some n x (suc k) l = refl
 
-walk_some : (n : ℕ → ℕ) (x k : ℕ) → (k ≡ 0 → ⊥) → head_of (walk n x k) ≡ Some x
-walk_some n x zero e = absurd (e refl)
-walk_some n x (suc k) e = refl
+abbrev pub tail_of : Option Ends → Option ℕ
+tail_of None = None
+tail_of (Some ch) = Some ch.tail.0
 
-module _ {T : Type 0} (c : List (Cell T)) (cs : Chains) (w : Chain) where
-  pub head_none : eqb (ends_at cs w).len 0 ≡ true → head_of ((shape_of c cs).order w) ≡ None
-  unfolding shape_of order_of
-  head_none e = walk_none _ _ (ends_at cs w).len (eqb-true _ _ e)
-
-  pub head_some : eqb (ends_at cs w).len 0 ≡ false → head_of ((shape_of c cs).order w) ≡ Some (ends_at cs w).tail.0
-  unfolding shape_of order_of
-  head_some e = walk_some _ _ (ends_at cs w).len (eqb-false _ _ e)
+pub head_tail : {T : Type 0} (c : List (Cell T)) (w : Chain) (o : Option Ends) → head_of (order_of c w o) ≡ tail_of o
+unfolding order_of
+head_tail c w None = refl
+head_tail c w (Some ch) = walk_some (next_of c w) ch.tail.0 ch.len ch.some
 
 -- joining, leaving and going to the head, as one
 both_heads : {X : Type 0} (b : Bool) (o o' e : List X) → cond b (cond b o' o ++ e) (cond b o' o) ≡ cond b (o' ++ e) o
@@ -137,13 +149,6 @@ module _ {T : Type 0} (w : Chain) (i : ℕ) (s : Shape T) where
   pub as_unlinked : unlinked w i s ≡ followed w i false s
   as_unlinked = shape_is (unlinked w i s) (followed w i false s) refl (λ v. ap (λ o. cond (same v w) o (s.order v)) (sym (append-nil (without i (s.order v))))) (λ j. refl) (λ f. refl)
 
-  as_stayed : (b : Bool) (o : List ℕ) → o ≡ cond b o o
-  as_stayed true o = refl
-  as_stayed false o = refl
-
-  pub as_here : s ≡ stayed w i true s
-  as_here = shape_is s (stayed w i true s) refl (λ v. as_stayed (same v w) (s.order v)) (λ j. refl) (λ f. refl)
-
   away_at : Misses i (s.order w) → (v : Chain) → s.order v ≡ (unlinked w i s).order v
   away_at m v = elim (cases_eq (place v) (place w)) [
     | inl e ↦ sym (without_none i (s.order v) (subst (λ x. Misses i (s.order x)) (sym (place_apart v w e)) m))
@@ -154,9 +159,11 @@ module _ {T : Type 0} (w : Chain) (i : ℕ) (s : Shape T) where
   pub as_away : Misses i (s.order w) → s ≡ unlinked w i s
   as_away m = shape_is s (unlinked w i s) refl (away_at m) (λ j. refl) (λ f. refl)
 
-  pub as_kept : (is : Bool) → Misses i (s.order w) → s ≡ stayed w i is s
-  as_kept true m = as_here
-  as_kept false m = as_away m
+  -- what has left the chain is not in it
+  pub away_after : (t : Shape T) → t ≡ unlinked w i s → Misses i (t.order w)
+  away_after t e =
+      let o = s.order w in
+      subst (Misses i) (sym (ap (λ s. s.order w) e ∙ cond-true (same w w) (without i o) o (eq-eqb (place w) (place w) refl))) (misses_without i o)
 
 -- a shape's size is the number of cells
 pub size_is : {T : Type 0} (c : List (Cell T)) (cs : Chains) → (shape_of c cs).size ≡ length c
@@ -164,25 +171,23 @@ unfolding shape_of
 size_is c cs = refl
 
 -- chains of no cell
-sound_none : {T : Type 0} (c : List (Cell T)) (w : Chain) (ch : Ends) → ch.len ≡ 0 → (order_of c w ch ≡ []) × Sound c w ch
-sound_none c w ch e =
-    let k : Chained c w ch [] = record { size = e; first = refl; last = refl; round = tt; within = tt; apart = tt } in
-    (order_is c w ch [] k, sound_from c w ch [] k)
+abbrev no_end : Option Ends
+no_end = None
 
-len_at : (x : Ends) → x.len ≡ 0 → (w : Chain) → (get_or (x ∷ x ∷ x ∷ x ∷ []) (place w) no_ends).len ≡ 0
-len_at x e Ring = e
-len_at x e Cold = e
-len_at x e Test = e
-len_at x e Free = e
+pub no_ends : (w : Chain) → get_or (no_end ∷ no_end ∷ no_end ∷ no_end ∷ []) (place w) None ≡ None
+no_ends Ring = refl
+no_ends Cold = refl
+no_ends Test = refl
+no_ends Free = refl
 
-module _ {T : Type 0} (c : List (Cell T)) (x : Ends) (e : x.len ≡ 0) where
-  pub intact_none : Intact c (record { ends = x ∷ x ∷ x ∷ x ∷ [] })
-  unfolding Intact
-  intact_none w = (sound_none c w (get_or (x ∷ x ∷ x ∷ x ∷ []) (place w) no_ends) (len_at x e w)).1
+module _ {T : Type 0} (c : List (Cell T)) (cs : Chains) (e : (w : Chain) → ends_at cs w ≡ None) where
+  pub intact_none : Intact c cs
+  unfolding Intact Sound
+  intact_none w = rw (e w) tt
 
-  pub order_none : (w : Chain) → (shape_of c (record { ends = x ∷ x ∷ x ∷ x ∷ [] })).order w ≡ []
-  unfolding shape_of
-  order_none w = (sound_none c w (get_or (x ∷ x ∷ x ∷ x ∷ []) (place w) no_ends) (len_at x e w)).0
+  pub order_none : (w : Chain) → (shape_of c cs).order w ≡ []
+  unfolding shape_of order_of
+  order_none w = rw (e w) refl
 
 -- a cell that has an entry is one of the slice
 pub entry_inside : {T : Type 0} (c : List (Cell T)) (cs : Chains) (j : ℕ) (e : T) → (shape_of c cs).entry j ≡ Some e → j < (shape_of c cs).size
@@ -195,3 +200,9 @@ entry_inside c cs j e h = elim (cases_lt j (length c)) [
       let n : ⊥ = omega arith in
       absurd n
 ]
+
+-- a chain that has a cell has ends
+pub is_there : {T : Type 0} (c : List (Cell T)) (w : Chain) (o : Option Ends) (i : ℕ) → ContainsAt (order_of c w o) i → IsSome o
+unfolding order_of
+is_there c w None i h = let z : ⊥ = omega (arith, h.1) in absurd z
+is_there c w (Some ch) i h = refl

@@ -1,5 +1,5 @@
--- What `push_head` and `unlink` do to a chain.
-use Rattle.std.proofs.Common.{◌≡◌, ℕ, suc, ◌+◌, ◌-◌, ◌<◌, cond, eqb, ◌≢◌, List, [], ◌∷◌, ◌++◌, length, take, drop, sym, refl, ap, ◌∙◌, subst, arith}
+-- What `Ends::push` and `Ends::unlink` do to a chain.
+use Rattle.std.proofs.Common.{◌≡◌, ℕ, suc, ◌+◌, ◌-◌, ◌<◌, cond, eqb, ◌≢◌, List, [], ◌∷◌, ◌++◌, length, take, drop, Some, sym, refl, ap, ◌∙◌, subst, arith}
 use lib.Seq.{split_at}
 use Rattle.std.specs.List.{ContainsAt, AllByRecursion}
 use Rattle.std.proofs.lemmas.List.{append-nil, length_push, length-append}
@@ -11,12 +11,12 @@ use Rattle.keys.specs.declared.CellNo.{CellNo}
 use Rattle.chains.specs.declared.cell.Links.{Links}
 use Rattle.chains.specs.declared.cell.Cell.{Cell}
 use Rattle.chains.specs.declared.cell.Chain.{Chain}
-use Rattle.chains.specs.declared.link.Ends.{Ends}
+use Rattle.chains.specs.declared.ends.Ends.{Ends}
 use Rattle.chains.proofs.Rounds.{walk_is, seam, grow, cut, cut_head, all_cut, apart_push, apart_cut, apart_before, apart_after, without_split}
 
 -- the function finds the order that the relation has
 module _ {T : Type 0} (c : List (Cell T)) (w : Chain) (ch : Ends) where
-  pub order_is : (order : List ℕ) → Chained c w ch order → order_of c w ch ≡ order
+  pub order_is : (order : List ℕ) → Chained c w ch order → order_of c w (Some ch) ≡ order
   unfolding order_of
   order_is [] k = ap (walk (next_of c w) ch.tail.0) k.size
   order_is (x ∷ xs) k =
@@ -24,35 +24,37 @@ module _ {T : Type 0} (c : List (Cell T)) (w : Chain) (ch : Ends) where
       ∙ ap (λ a. walk (next_of c w) a (suc (length xs))) (sym k.first)
       ∙ walk_is (next_of c w) (prev_of c w) x xs k.round.2
 
-  pub sound_from : (order : List ℕ) → Chained c w ch order → Sound c w ch
+  pub sound_from : (order : List ℕ) → Chained c w ch order → Sound c w (Some ch)
   unfolding Sound
   sound_from order k = subst (λ o. Chained c w ch o) (sym (order_is order k)) k
 
-pub all_last : (P : ℕ → Type 0) (x : ℕ) (xs : List ℕ) → P x → AllByRecursion P xs → P (last_of x xs)
+all_last : (P : ℕ → Type 0) (x : ℕ) (xs : List ℕ) → P x → AllByRecursion P xs → P (last_of x xs)
 all_last P x [] h a = h
 all_last P x (y ∷ ys) h a = all_last P y ys a.0 a.1
-
-pub all_first : (P : ℕ → Type 0) (x : ℕ) (xs : List ℕ) → P x → AllByRecursion P xs → P (first_of x xs)
-all_first P x [] h a = h
-all_first P x (y ∷ ys) h a = a.0
 
 last_mid : (d : ℕ) (xs : List ℕ) (i : ℕ) (zs : List ℕ) → last_of d (xs ++ i ∷ zs) ≡ last_of i zs
 last_mid d [] i zs = refl
 last_mid d (x ∷ xs) i zs = last_mid x xs i zs
 
--- `push_head`
+-- `push`
 
-pub end_prev : (k : ℕ) (i h r : CellNo) (order : List ℕ) → k ≡ length order → last_of h.0 order ≡ h.0
-    → r ≡ cond (eqb k 0) i h → r.0 ≡ last_of i.0 order
-end_prev k i h r [] s l e = ap (λ x. x.0) (e ∙ cond-true (eqb k 0) i h (eq-eqb k 0 s))
-end_prev k i h r (x ∷ xs) s l e =
-    ap (λ x. x.0) (e ∙ cond-false (eqb k 0) i h (ne_eqb k 0 (λ z. omega arith))) ∙ sym l
+-- the first cell of a chain
+pub alone : {T : Type 0} (c₀ c₁ : List (Cell T)) (w : Chain) (i : CellNo) (p : 0 < 1)
+    → Put (next_of c₀ w) (next_of c₁ w) i.0 i.0 → Put (prev_of c₀ w) (prev_of c₁ w) i.0 i.0 → i.0 < length c₁
+    → Chained c₁ w (record { tail = i; head = i; len = 1; some = p }) (i.0 ∷ [])
+alone c₀ c₁ w i o n p l = record { size = refl; first = refl; last = refl; round = (n.here, p.here, tt); within = (l, tt); apart = (tt, tt) }
 
-pub end_next : (k : ℕ) (i t r : CellNo) (order : List ℕ) → k ≡ length order → first_of t.0 order ≡ t.0
-    → r ≡ cond (eqb k 0) i t → r.0 ≡ first_of i.0 order
-end_next k i t r [] s f e = ap (λ x. x.0) (e ∙ cond-true (eqb k 0) i t (eq-eqb k 0 s))
-end_next k i t r (x ∷ xs) s f e =
-    ap (λ x. x.0) (e ∙ cond-false (eqb k 0) i t (ne_eqb k 0 (λ z. omega arith))) ∙ sym f
+last_same : (h d : ℕ) (xs : List ℕ) → 0 < length xs → last_of h xs ≡ h → h ≡ last_of d xs
+last_same h d [] l e = omega arith
+last_same h d (x ∷ xs) l e = sym e
+
+first_same : (t d : ℕ) (xs : List ℕ) → 0 < length xs → first_of t xs ≡ t → t ≡ first_of d xs
+first_same t d [] l e = omega arith
+first_same t d (x ∷ xs) l e = sym e
+
+ends_have : (P : ℕ → Type 0) (h t : ℕ) (xs : List ℕ) → 0 < length xs → last_of h xs ≡ h → first_of t xs ≡ t → AllByRecursion P xs → P h × P t
+ends_have P h t [] l e f a = let z : ⊥ = omega arith in absurd z
+ends_have P h t (x ∷ xs) l e f a = (subst P e (all_last P x xs a.0 a.1), subst P f a.0)
 
 first_push : (i t : ℕ) (order : List ℕ) → t ≡ first_of i order → first_of t (order ++ i ∷ []) ≡ t
 first_push i t [] e = sym e
@@ -74,38 +76,33 @@ module _ (n₀ n₁ n₂ p₀ p₁ p₂ : ℕ → ℕ) (h i t : ℕ)
             (λ j ji jt. qp.there j (λ e. jt (e ∙ te)) ∙ pp.there j ji),
       )
 
-module _ {T : Type 0} (c₀ c₁ c₂ : List (Cell T)) (w : Chain) (ch : Ends) (order : List ℕ) (i : CellNo) (around : Links)
-    (k : Chained c₀ w ch order)
-    (pe : around.prev ≡ cond (eqb ch.len 0) i ch.head)
-    (ne : around.next ≡ cond (eqb ch.len 0) i ch.tail)
-    (lt : i.0 < length c₀) where
-  pub prev_within : around.prev.0 < length c₀
-  prev_within =
-      rw (end_prev ch.len i ch.head around.prev order k.size k.last pe)
-      (all_last (λ j. j < length c₀) i.0 order lt k.within)
+module _ {T : Type 0} (c₀ : List (Cell T)) (w : Chain) (ch : Ends) (order : List ℕ) (k : Chained c₀ w ch order) where
+  head_is : (d : ℕ) → ch.head.0 ≡ last_of d order
+  head_is d = last_same ch.head.0 d order (omega (arith, k.size, ch.some)) k.last
 
-  pub next_within : around.next.0 < length c₀
-  next_within =
-      rw (end_next ch.len i ch.tail around.next order k.size k.first ne)
-      (all_first (λ j. j < length c₀) i.0 order lt k.within)
+  tail_is : (d : ℕ) → ch.tail.0 ≡ first_of d order
+  tail_is d = first_same ch.tail.0 d order (omega (arith, k.size, ch.some)) k.first
 
-  pub pushed : Put (next_of c₀ w) (next_of c₁ w) around.prev.0 i.0 → Put (prev_of c₀ w) (prev_of c₁ w) i.0 around.prev.0
-      → Put (next_of c₁ w) (next_of c₂ w) i.0 around.next.0 → Put (prev_of c₁ w) (prev_of c₂ w) around.next.0 i.0
+  pub within : (ch.head.0 < length c₀) × (ch.tail.0 < length c₀)
+  within =
+      let P = λ (j : ℕ). j < length c₀ in
+      ends_have P ch.head.0 ch.tail.0 order (omega (arith, k.size, ch.some)) k.last k.first k.within
+
+  pub pushed : (c₁ c₂ : List (Cell T)) (i : CellNo) (p : 0 < ch.len + 1) → i.0 < length c₀
+      → Put (next_of c₀ w) (next_of c₁ w) ch.head.0 i.0 → Put (prev_of c₀ w) (prev_of c₁ w) i.0 ch.head.0
+      → Put (next_of c₁ w) (next_of c₂ w) i.0 ch.tail.0 → Put (prev_of c₁ w) (prev_of c₂ w) ch.tail.0 i.0
       → length c₂ ≡ length c₀ → Misses i.0 order
-      → Chained c₂ w (record { tail = around.next; head = i; len = ch.len + 1 }) (order ++ i.0 ∷ [])
-  pushed pn pp qn qp s m =
-      let he = end_prev ch.len i ch.head around.prev order k.size k.last pe in
-      let te = end_next ch.len i ch.tail around.next order k.size k.first ne in
-      record {
-        size = ap (λ x. x + 1) k.size ∙ sym (length_push order i.0);
-        first = first_push i.0 around.next.0 order te;
-        last = last_mid i.0 order i.0 [];
-        round = push_round (next_of c₀ w) (next_of c₁ w) (next_of c₂ w) (prev_of c₀ w) (prev_of c₁ w) (prev_of c₂ w)
-            around.prev.0 i.0 around.next.0 pn pp qn qp ch.head.0 order he te k.last k.round k.apart m;
-        within = All-push (λ j. j < length c₂) order i.0
-            (All-weaker (λ j. j < length c₀) (λ j. j < length c₂) (λ j l. omega arith) order k.within) (omega arith);
-        apart = apart_push order i.0 k.apart m;
-      }
+      → Chained c₂ w (record { tail = ch.tail; head = i; len = ch.len + 1; some = p }) (order ++ i.0 ∷ [])
+  pushed c₁ c₂ i p lt pn pp qn qp s m = record {
+    size = ap (λ x. x + 1) k.size ∙ sym (length_push order i.0);
+    first = first_push i.0 ch.tail.0 order (tail_is i.0);
+    last = last_mid i.0 order i.0 [];
+    round = push_round (next_of c₀ w) (next_of c₁ w) (next_of c₂ w) (prev_of c₀ w) (prev_of c₁ w) (prev_of c₂ w)
+        ch.head.0 i.0 ch.tail.0 pn pp qn qp ch.head.0 order (head_is i.0) (tail_is i.0) k.last k.round k.apart m;
+    within = All-push (λ j. j < length c₂) order i.0
+        (All-weaker (λ j. j < length c₀) (λ j. j < length c₂) (λ j l. omega arith) order k.within) (omega arith);
+    apart = apart_push order i.0 k.apart m;
+  }
 
 -- `unlink`
 
@@ -171,14 +168,14 @@ module _ (n p n' p' : ℕ → ℕ) (hd i pv nx h : CellNo)
       cut n p n' p' i.0 (kn (forth hd.0 xs (z ∷ zs) f)) (kp (there_back n p hd.0 xs i.0 z zs f)) hn hp hd.0 xs (z ∷ zs) f hi mx mz in
       (last_mid h.0 xs z zs ∙ hl ∙ sym hh, subst (λ a. From n' p' a (xs ++ z ∷ zs)) (sym hh) r)
 
-pub unlinked_from : {T : Type 0} (c c' : List (Cell T)) (w : Chain) (ch : Ends) (i : CellNo) (around : Links) (t h : CellNo) (xs zs : List ℕ)
+pub unlinked_from : {T : Type 0} (c c' : List (Cell T)) (w : Chain) (ch : Ends) (i : CellNo) (around : Links) (t h : CellNo) (p : 0 < ch.len - 1) (xs zs : List ℕ)
     → Chained c w ch (xs ++ i.0 ∷ zs)
     → around.next.0 ≡ next_of c w i.0 → around.prev.0 ≡ prev_of c w i.0
     → Put (next_of c w) (next_of c' w) around.prev.0 around.next.0 → Put (prev_of c w) (prev_of c' w) around.next.0 around.prev.0
     → length c' ≡ length c
     → t ≡ cond (eqb ch.tail.0 i.0) around.next ch.tail → h ≡ cond (eqb ch.head.0 i.0) around.prev ch.head
-    → Chained c' w (record { tail = t; head = h; len = ch.len - 1 }) (xs ++ zs)
-unlinked_from c c' w ch i around t h xs zs k ne pe tn tp s te he =
+    → Chained c' w (record { tail = t; head = h; len = ch.len - 1; some = p }) (xs ++ zs)
+unlinked_from c c' w ch i around t h p xs zs k ne pe tn tp s te he =
     let mx = apart_before xs i.0 zs k.apart in
     let mz = apart_after xs i.0 zs k.apart in
     let r = round_cut (next_of c w) (prev_of c w) (next_of c' w) (prev_of c' w) ch.head i around.prev around.next h he pe ne tn tp xs zs k.last k.round mx mz in
@@ -248,17 +245,33 @@ neighbours c w ch i o k h =
       some = omega (arith, h.1, k.size);
     }
 
-pub unlinked : {T : Type 0} (c c' : List (Cell T)) (w : Chain) (ch : Ends) (i : CellNo) (around : Links) (t h : CellNo) (o : List ℕ)
+-- the chain without i
+cut_out : {T : Type 0} (c : List (Cell T)) (w : Chain) (ch : Ends) (i : ℕ) (xs zs : List ℕ) → Chained c w ch (xs ++ i ∷ zs)
+    → without i (xs ++ i ∷ zs) ≡ xs ++ zs
+cut_out c w ch i xs zs k = without_split xs i zs (apart_before xs i zs k.apart) (apart_after xs i zs k.apart)
+
+pub unlinked : {T : Type 0} (c c' : List (Cell T)) (w : Chain) (ch : Ends) (i : CellNo) (around : Links) (t h : CellNo) (p : 0 < ch.len - 1) (o : List ℕ)
     → Chained c w ch o → ContainsAt o i.0
     → around.next.0 ≡ next_of c w i.0 → around.prev.0 ≡ prev_of c w i.0
     → Put (next_of c w) (next_of c' w) around.prev.0 around.next.0 → Put (prev_of c w) (prev_of c' w) around.next.0 around.prev.0
     → length c' ≡ length c
     → t ≡ cond (eqb ch.tail.0 i.0) around.next ch.tail → h ≡ cond (eqb ch.head.0 i.0) around.prev ch.head
-    → Chained c' w (record { tail = t; head = h; len = ch.len - 1 }) (without i.0 o)
-unlinked c c' w ch i around t h o k m ne pe tn tp s te he =
+    → Chained c' w (record { tail = t; head = h; len = ch.len - 1; some = p }) (without i.0 o)
+unlinked c c' w ch i around t h p o k m ne pe tn tp s te he =
     let q = has_split o i.0 m in
     let k' : Chained c w ch (q.0 ++ i.0 ∷ q.1) = subst (λ o. Chained c w ch o) q.2 k in
     let e : without i.0 o ≡ q.0 ++ q.1 =
-    ap (without i.0) q.2 ∙ without_split q.0 i.0 q.1 (apart_before q.0 i.0 q.1 k'.apart) (apart_after q.0 i.0 q.1 k'.apart) in
-    subst (λ o. Chained c' w (record { tail = t; head = h; len = ch.len - 1 }) o) (sym e)
-    (unlinked_from c c' w ch i around t h q.0 q.1 k' ne pe tn tp s te he)
+    ap (without i.0) q.2 ∙ cut_out c w ch i.0 q.0 q.1 k' in
+    subst (λ o. Chained c' w (record { tail = t; head = h; len = ch.len - 1; some = p }) o) (sym e)
+    (unlinked_from c c' w ch i around t h p q.0 q.1 k' ne pe tn tp s te he)
+
+-- the last cell of a chain leaves it
+no_length : (l : List ℕ) → length l ≡ 0 → [] ≡ l
+no_length [] e = refl
+no_length (x ∷ xs) e = let z : ⊥ = omega arith in absurd z
+
+pub none_left : {T : Type 0} (c : List (Cell T)) (w : Chain) (ch : Ends) (i : ℕ) (o : List ℕ) → Chained c w ch o → ContainsAt o i → ch.len ≡ 1 → [] ≡ without i o
+none_left c w ch i o k m e =
+    let q = has_split o i m in
+    let k' : Chained c w ch (q.0 ++ i ∷ q.1) = subst (λ o. Chained c w ch o) q.2 k in
+    no_length (q.0 ++ q.1) (omega (arith, k'.size, length-append q.0 q.1, length-append q.0 (i ∷ q.1))) ∙ sym (ap (without i) q.2 ∙ cut_out c w ch i q.0 q.1 k')

@@ -1,15 +1,16 @@
 -- A chain through the cells, as the list of the cells in its order.
 --   From, walk         that links lead through a list of cells; the cells that they lead through
 --   Apart, Misses      that numbers differ; that a number is not among them
+--   IsAmong           by a flag, that it is among them or not
 --   without            the list without a number
 --   Chained            that links go round a list of cells
 --   order_of, Sound     the cells of a chain, from tail to head; that its links go round them
-use Rattle.std.specs.Prelude.{◌≡◌, ℕ, zero, suc, ◌<◌, cond, ◌≢◌, List, [], ◌∷◌, length, ◌==◌}
-use Rattle.std.specs.List.{AllByRecursion}
+use Rattle.std.specs.Prelude.{◌≡◌, ℕ, Bool, MatchBool, zero, suc, ◌<◌, cond, ◌≢◌, List, [], ◌∷◌, length, Some, None, Option, ◌==◌}
+use Rattle.std.specs.List.{AllByRecursion, ContainsAt}
 use Rattle.chains.specs.Cells.{next_of, prev_of}
 use Rattle.chains.specs.declared.cell.Cell.{Cell}
 use Rattle.chains.specs.declared.cell.Chain.{Chain}
-use Rattle.chains.specs.declared.link.Ends.{Ends}
+use Rattle.chains.specs.declared.ends.Ends.{Ends}
 
 -- n leads from x through xs, and p leads back
 abbrev pub From : (n p : ℕ → ℕ) → ℕ → List ℕ → Type 0
@@ -31,6 +32,10 @@ Apart (x ∷ xs) = AllByRecursion (λ y. y ≢ x) xs × Apart xs
 abbrev pub Misses : ℕ → List ℕ → Type 0
 Misses x xs = AllByRecursion (λ y. y ≢ x) xs
 
+-- by a flag: that a number is among them, or is not
+abbrev pub IsAmong : Bool → ℕ → List ℕ → Type 0
+IsAmong b x xs = MatchBool b (ContainsAt xs x) (Misses x xs)
+
 -- the list without x
 abbrev pub without : ℕ → List ℕ → List ℕ
 without x [] = []
@@ -49,9 +54,11 @@ pub record Chained {T : Type 0} (cells : List (Cell T)) (w : Chain) (ch : Ends) 
   pub within : AllByRecursion (λ j. j < length cells) order
   pub apart : Apart order
 
--- the cells of a chain, from tail to head
-unfoldable pub order_of : {T : Type 0} → List (Cell T) → Chain → Ends → List ℕ
-order_of cells w ch = walk (next_of cells w) ch.tail.0 ch.len
+-- the cells of a chain, from tail to head; a chain with no ends has no cell
+unfoldable pub order_of : {T : Type 0} → List (Cell T) → Chain → Option Ends → List ℕ
+order_of cells w None = []
+order_of cells w (Some ch) = walk (next_of cells w) ch.tail.0 ch.len
 
-unfoldable pub Sound : {T : Type 0} → List (Cell T) → Chain → Ends → Type 0
-Sound cells w ch = Chained cells w ch (order_of cells w ch)
+unfoldable pub Sound : {T : Type 0} → List (Cell T) → Chain → Option Ends → Type 0
+Sound cells w None = Unit {0}
+Sound cells w (Some ch) = Chained cells w ch (order_of cells w (Some ch))

@@ -9,7 +9,7 @@ use Rattle.chains.specs.Cells.{place, entry_of, slot_of}
 use Rattle.chains.specs.Orders.{order_of, Sound, without}
 use Rattle.chains.specs.declared.cell.Cell.{Cell}
 use Rattle.keys.specs.declared.CellNo.{CellNo}
-use Rattle.chains.specs.declared.link.Ends.{Ends}
+use Rattle.chains.specs.declared.ends.Ends.{Ends}
 use Rattle.chains.specs.declared.cell.Chain.{Chain}
 use Rattle.chains.specs.declared.Chains.{Chains}
 
@@ -19,11 +19,8 @@ pub record Shape (T : Type 0) : Type 0 where
   pub entry : ℕ → Option T
   pub slot : ℕ → ℕ
 
-abbrev pub no_ends : Ends
-no_ends = record { tail = record { 0 = 0 }; head = record { 0 = 0 }; len = 0 }
-
-abbrev pub ends_at : Chains → Chain → Ends
-ends_at cs w = slice_index_or cs.ends (place w) no_ends
+abbrev pub ends_at : Chains → Chain → Option Ends
+ends_at cs w = slice_index_or cs.ends (place w) None
 
 unfoldable pub shape_of : {T : Type 0} → List (Cell T) → Chains → Shape T
 shape_of cells cs = record { size = length cells; order = λ w. order_of cells w (ends_at cs w); entry = entry_of cells; slot = slot_of cells }

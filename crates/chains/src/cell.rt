@@ -5,6 +5,8 @@ ghost use Rattle.std.specs.Prelude.{◌≡◌, None};
 use keys::CellNo;
 
 /// The predecessor and the successor of a cell in one chain. They mean something only while the cell is in that chain.
+// stays: no `Option`, since no call reads the links of a cell that is not in the chain; an `Option` would add a write
+// where a cell leaves, an `unwrap` to each read and 16 bytes to each lent cell.
 #[derive(Clone, Copy)]
 pub struct Links {
     pub(crate) prev: CellNo,
@@ -47,6 +49,8 @@ pub enum Chain {
 ///       frame     0     1     2     ...
 ///       slot    [ 7 ] [ 4 ] [ 0 ]   ...          the entry of frame 0 is in cell 7
 /// ```
+// stays: links are cell numbers, since the memory is lent to each call: there is no heap, and no reference outlives it.
+// stays: a slot is no `Option`, since it is not cleared when its entry leaves: who reads it looks at the entry's frame.
 #[derive(Clone, Copy)]
 pub struct Cell<T> {
     pub(crate) entry: Option<T>,
@@ -65,7 +69,7 @@ pub fn blank<T>() -> Cell<T>
     };
     Cell {
         entry: None,
-        links: [alone, alone, alone, alone],
+        links: [alone; 4],
         slot: nowhere,
     }
 }

@@ -1,8 +1,8 @@
 //! The fixed examples of the bundle format, with the answers that are stated for them.
 
-use crate::comparing::compare;
-use crate::tally::Tally;
-use std::alloc::{AllocError, Global};
+use crate::comparing::Comparison;
+use plain_reader::PlainFault;
+use std::alloc::AllocError;
 
 // One delivery, 7, of two pages; the same with a byte less and with a byte more.
 const ONE: &[u8] = b"\x01\x00\x07\x00\x01\x02\x00\x00\x00\x02\x00\x00\x00\xaa\xbb";
@@ -34,53 +34,47 @@ const LISTED_TWICE: &[u8] =
 const WRONG_TOTAL: &[u8] = b"\x01\x00\x07\x00\x01\x02\x00\x00\x00\x03\x00\x00\x00\xaa\xbb\xcc";
 
 // Compares the readers, and the plain one with the stated answer.
+// stays: the answers are stated as numbers, which are what the format defines.
 fn example(
-    heap: Global,
-    tally: &mut Tally,
-    stated: u8,
+    c: &mut Comparison,
+    stated: Option<u8>,
     page_size: usize,
     bytes: &[u8],
 ) -> Result<(), AllocError> {
-    let answer = plain_reader::refusal(heap, page_size, bytes)?;
-    tally.same(u64::from(answer), u64::from(stated));
-    compare(heap, tally, page_size, bytes)
+    let answer = plain_reader::refusal(c.heap, page_size, bytes)?;
+    c.tally.same(answer.map(PlainFault::number), stated);
+    c.bytes(page_size, bytes)
 }
 
 /// Bundles that open, and the same with a byte less, a byte more or another page size.
-pub(crate) fn good_examples(heap: Global) -> Result<Tally, AllocError> {
-    let mut tally = Tally::new();
-    let t = &mut tally;
-    example(heap, t, 0, 1, ONE)?;
-    example(heap, t, 7, 1, ONE_SHORT)?;
-    example(heap, t, 7, 1, ONE_LONG)?;
-    example(heap, t, 7, 2, ONE)?;
-    example(heap, t, 0, 4, TWO)?;
+pub(crate) fn good(c: &mut Comparison) -> Result<(), AllocError> {
+    example(c, None, 1, ONE)?;
+    example(c, Some(7), 1, ONE_SHORT)?;
+    example(c, Some(7), 1, ONE_LONG)?;
+    example(c, Some(7), 2, ONE)?;
+    example(c, None, 4, TWO)?;
     for page_size in [1, 2, 3, 64, 4_095, 4_096] {
-        example(heap, t, 0, page_size, SMALLEST)?;
+        example(c, None, page_size, SMALLEST)?;
     }
-    example(heap, t, 0, 1, NO_PAGES)?;
-    Ok(tally)
+    example(c, None, 1, NO_PAGES)
 }
 
 /// Damaged bundles.
-pub(crate) fn damaged_examples(heap: Global) -> Result<Tally, AllocError> {
-    let mut tally = Tally::new();
-    let t = &mut tally;
+pub(crate) fn damaged(c: &mut Comparison) -> Result<(), AllocError> {
     for page_size in [0, 4_097] {
-        example(heap, t, 1, page_size, &[])?;
-        example(heap, t, 1, page_size, SMALLEST)?;
+        example(c, Some(1), page_size, &[])?;
+        example(c, Some(1), page_size, SMALLEST)?;
     }
-    example(heap, t, 5, 1, &[])?;
-    example(heap, t, 5, 1, &[0])?;
-    example(heap, t, 5, 1, &[1, 0])?;
-    example(heap, t, 5, 1, &[1, 1])?;
-    example(heap, t, 5, 1, TOO_MANY_ROWS)?;
-    example(heap, t, 6, 1, BAD_UNIT)?;
-    example(heap, t, 6, 1, TOO_MANY_PAGES)?;
-    example(heap, t, 6, 1, LISTED_TWICE)?;
-    example(heap, t, 7, 1, &[0, 0])?;
-    example(heap, t, 7, 1, MOST_PAGES)?;
-    example(heap, t, 7, 1, WRONG_TOTAL)?;
-    example(heap, t, 7, 1, SMALLEST_LONG)?;
-    Ok(tally)
+    example(c, Some(5), 1, &[])?;
+    example(c, Some(5), 1, &[0])?;
+    example(c, Some(5), 1, &[1, 0])?;
+    example(c, Some(5), 1, &[1, 1])?;
+    example(c, Some(5), 1, TOO_MANY_ROWS)?;
+    example(c, Some(6), 1, BAD_UNIT)?;
+    example(c, Some(6), 1, TOO_MANY_PAGES)?;
+    example(c, Some(6), 1, LISTED_TWICE)?;
+    example(c, Some(7), 1, &[0, 0])?;
+    example(c, Some(7), 1, MOST_PAGES)?;
+    example(c, Some(7), 1, WRONG_TOTAL)?;
+    example(c, Some(7), 1, SMALLEST_LONG)
 }

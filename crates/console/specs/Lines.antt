@@ -1,6 +1,6 @@
 -- What the program prints, as bytes.
 --   refusal_line    the line of a refusal
---   delivery_line   the line of a delivery; unit_word, the name of its unit
+--   delivery_line   the line of a delivery
 --   listing        the lines of a bundle
 --   Described      what is printed of bytes that may be a bundle
 --   hexed          bytes as pairs of hexadecimal digits
@@ -12,17 +12,12 @@ use Rattle.stores.specs.Meaning.{Meaning, held, page_of}
 use Rattle.stores.specs.declared.faults.StoreFault.{StoreFault}
 use Rattle.stores.specs.declared.faults.StoreFault.TheVariants.{NotHeld}
 use Rattle.bundles.specs.Format.{Row, rows_of, pages_in, bundle_refusal}
-use Rattle.bundles.specs.Bundles.{unit_of}
+use Rattle.bundles.specs.Bundles.{unit_of, unit_word}
 use Rattle.bundles.specs.declared.rows.AmountUnit.{AmountUnit}
-use Rattle.bundles.specs.declared.rows.AmountUnit.TheVariants.{Whole, Thousands}
 
 -- refused 7 by store: the pages are not exactly those that the rows count
 abbrev pub refusal_line : StoreFault → List ℕ
 refusal_line f = codes "refused " ++ (decimal (number f) ++ (codes " by store: " ++ reason f))
-
-abbrev pub unit_word : AmountUnit → List ℕ
-unit_word Whole = codes "whole"
-unit_word Thousands = codes "thousands"
 
 -- delivery 7, thousands, 2 pages
 abbrev pub delivery_line : ℕ → AmountUnit → ℕ → List ℕ

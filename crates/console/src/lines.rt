@@ -3,7 +3,7 @@
 ghost use Rattle.std.specs.Prelude.{Some};
 ghost use Rattle.console.specs.Lines.{refusal_line, delivery_line};
 
-use bundles::{AmountUnit, Delivery};
+use bundles::Delivery;
 use std::fmt;
 use stores::StoreFault;
 
@@ -15,9 +15,13 @@ impl fmt::Display for RefusalLine {
     ghost output = { λ x. Some (refusal_line x.0) };
 
     fn fmt<W: fmt::Write>(&self, f: &mut fmt::Formatter<W>) -> fmt::Result {
-        let number = self.0.number();
-        let reason = self.0.reason();
-        write!(f, "refused {number} by store: {reason}")
+        let RefusalLine(fault) = self;
+        write!(
+            f,
+            "refused {} by {}: {fault}",
+            fault.number(),
+            fault.layer()
+        )
     }
 }
 
@@ -29,12 +33,11 @@ impl fmt::Display for DeliveryLine {
     ghost output = { λ x. Some (delivery_line x.0.number.0 x.0.unit x.0.pages) };
 
     fn fmt<W: fmt::Write>(&self, f: &mut fmt::Formatter<W>) -> fmt::Result {
-        let number = self.0.number.0;
-        let pages = self.0.pages;
-        let unit = match self.0.unit {
-            AmountUnit::Whole => "whole",
-            AmountUnit::Thousands => "thousands",
-        };
-        write!(f, "delivery {number}, {unit}, {pages} pages")
+        let DeliveryLine(delivery) = self;
+        write!(
+            f,
+            "delivery {}, {}, {} pages",
+            delivery.number.0, delivery.unit, delivery.pages
+        )
     }
 }

@@ -18,17 +18,9 @@ pub fn page_text<K: Key, S: Store<K>>(
     ensures text { IfOk result (λ s. string_bytes s ≡ page_text (S.Store.meant store.old) (K.Key.meaning key.now)) }
     ensures store { S.Store.meant store.new ≡ S.Store.meant store.old }
 {
-    let size = store.page_size();
-    let mut buffer = vec![in heap; 0u8; size]?;
+    let mut buffer = vec![in heap; 0u8; store.page_size()]?;
     match store.read(key, buffer.as_mut_slice()) {
-        Ok(()) => {
-            let text = hex(heap, buffer.as_slice())?;
-            Ok(text)
-        }
-        Err(fault) => {
-            let line = RefusalLine(fault);
-            let text = format!(in heap; "{line}")?;
-            Ok(text)
-        }
+        Ok(()) => hex(heap, buffer.as_slice()),
+        Err(fault) => RefusalLine(fault).to_string(heap),
     }
 }

@@ -1,11 +1,11 @@
 -- From a call to an order.
-use Rattle.std.proofs.Common.{◌≡◌, ℕ, ◌*◌, Bool, true, false, cond, ◌&&◌, eqb, List, [], ◌∷◌, length, Some, None, Ok, Err, Option, Result, sym, refl, ap, ◌∙◌, subst, ap₂, arith}
+use Rattle.std.proofs.Common.{◌≡◌, ℕ, true, ◌&&◌, eqb, List, [], ◌∷◌, length, Some, None, Ok, Err, Option, Result, unwrap_or, sym, refl, ap, ◌∙◌, subst, ap₂}
 use Rattle.std.specs.Result.{MatchResult}
-use Rattle.std.proofs.lemmas.Bool.{eqb-true, eq-eqb, and_parts, and_from}
+use Rattle.std.proofs.lemmas.Bool.{eqb-true, and_parts}
 use Rattle.stores.specs.Meaning.{Meaning}
 use Rattle.stores.specs.declared.faults.Layer.{Layer}
-use Rattle.machine.proofs.Counts.{none_some, differ}
-use Rattle.promise.specs.Serves.{Request, Call, Answer, denied, by_pool, Serves}
+use Rattle.machine.proofs.Counts.{none_some}
+use Rattle.promise.specs.Serves.{Request, Call, denied, by_pool, Serves}
 use Rattle.promise.specs.Book.{event}
 use Rattle.promise.specs.Desk as model
 use Rattle.promise.specs.Desk.{Desk, desk, request_of, handed, calling, call_with, lent_sizes, Plays, rests, idles, calls, Held}
@@ -20,7 +20,7 @@ use Rattle.desk.specs.declared.orders.Ask.{Ask}
 use Rattle.desk.specs.declared.orders.Sizes.{Sizes}
 use Rattle.desk.specs.declared.orders.Order.{Order}
 use Rattle.desk.specs.declared.orders.Reply.{Reply}
-use Rattle.desk.specs.Reading.{ask_in, sizes_in, order_in, reply_in, hands_in, desk_of}
+use Rattle.desk.specs.Reading.{ask_in, sizes_in, order_in, hands_in, desk_of}
 use Rattle.desk.specs.Serving.{AtDesk, CalledBy, Called, Turned, Same, Untouched, Ordered}
 
 -- what an order comes to: the desk after it, and the play
@@ -30,10 +30,7 @@ pub record Stepped {K : Type 0} (meaning : K → List ℕ) (o : Order K) (h : Ho
 
 same-sizes : {K : Type 0} (h after : Holding K) → sizes_of h ≡ None → after.pool.frames ≡ h.pool.frames → after.store.size ≡ h.store.size →
     length after.frames ≡ length h.frames → length after.cells ≡ length h.cells → sizes_of after ≡ None
-same-sizes h after e i j k l =
-    ap (λ x. sizes x after.store.size (length after.frames) (length after.cells)) i
-    ∙ ap (λ x. sizes h.pool.frames x (length after.frames) (length after.cells)) j
-    ∙ ap₂ (λ x y. sizes h.pool.frames h.store.size x y) k l ∙ e
+same-sizes h after e i j k l = rw (i, j, k, l) e
 
 -- an order that the desk's own memory is lent to
 pub stepped : {K : Type 0} (meaning : K → List ℕ) (o : Order K) (h : Holding K) (hands : List (Option Loan)) (r : Reply K) (after : Holding K) (left : List (Option Loan)) →
@@ -57,7 +54,7 @@ stepped {K} meaning o h hands r after left w z k l c = go (request_of (ask_in me
             ready = subst (Ready meaning) (sym x.same) w.ready;
             held = subst Held (sym same) w.held;
           };
-          made = record { events = []; plays = subst (λ y. Plays d (order_in meaning o ∷ []) (reply_in meaning r ∷ []) [] y) (sym same) (subst (λ y. Plays d (order_in meaning o ∷ []) (y ∷ []) [] d) (sym x.replied) (idles (say None e) rests)) };
+          made = record { events = []; plays = rw (same, x.replied) (idles (say None e) rests) };
         }
     go (Some q) e x =
         let a = x.answer in
@@ -73,43 +70,40 @@ stepped {K} meaning o h hands r after left w z k l c = go (request_of (ask_in me
           };
           made = record {
             events = event call a ∷ [];
-            plays = subst (λ y. Plays d (order_in meaning o ∷ []) (reply_in meaning r ∷ []) (event call a ∷ []) (desk t y)) (sym x.in_hands)
-                (subst (λ y. Plays d (order_in meaning o ∷ []) (y ∷ []) (event call a ∷ []) (desk t (handed (ask_in meaning o.ask) a (hands_in hands)))) (sym x.replied) (calls (say (Some q) e) s rests));
+            plays = rw (x.in_hands, x.replied) (calls (say (Some q) e) s rests);
           };
         }
 
--- where no memory is named, it is the desk's own
-pub own_none : {K : Type 0} (meaning : K → List ℕ) (o : Order K) (h : Holding K) → o.lent ≡ None → sizes_of h ≡ None →
-    lent_sizes (state meaning h) (sizes_in o.lent) ≡ record { bytes = length h.frames; cells = length h.cells }
-own_none meaning o h e f =
-    ap (λ x. lent_sizes (state meaning h) (sizes_in x)) e
-    ∙ ap₂ (λ x y. record { bytes = x; cells = y }) (sym (fit_frames h f)) (sym (fit_cells h f))
+abbrev pub own : {K : Type 0} → Holding K → Sizes
+own h = record { bytes = length h.frames; cells = length h.cells }
 
-pub own_some : {K : Type 0} (meaning : K → List ℕ) (o : Order K) (h : Holding K) (z : Sizes) → o.lent ≡ Some z → (eqb z.bytes (length h.frames) && eqb z.cells (length h.cells)) ≡ true →
-    lent_sizes (state meaning h) (sizes_in o.lent) ≡ record { bytes = length h.frames; cells = length h.cells }
-own_some meaning o h z e t =
+-- the memory that an order names, or the desk's own
+pub named_sizes : {K : Type 0} (meaning : K → List ℕ) (o : Order K) (h : Holding K) (z : Sizes) → sizes_of h ≡ None → z ≡ unwrap_or o.lent (own h) →
+    lent_sizes (state meaning h) (sizes_in o.lent) ≡ record { bytes = z.bytes; cells = z.cells }
+named_sizes meaning o h z f e = go o.lent e
+  where
+    go : (l : Option Sizes) → z ≡ unwrap_or l (own h) → lent_sizes (state meaning h) (sizes_in l) ≡ record { bytes = z.bytes; cells = z.cells }
+    go None i = ap₂ (λ x y. record { bytes = x; cells = y }) (sym (fit_frames h f) ∙ ap (λ w. w.bytes) (sym i)) (sym (fit_cells h f) ∙ ap (λ w. w.cells) (sym i))
+    go (Some w) i = ap₂ (λ x y. record { bytes = x; cells = y }) (ap (λ v. v.bytes) (sym i)) (ap (λ v. v.cells) (sym i))
+
+-- they are the desk's own
+pub own_sizes : {K : Type 0} (meaning : K → List ℕ) (o : Order K) (h : Holding K) (z : Sizes) → sizes_of h ≡ None → z ≡ unwrap_or o.lent (own h) →
+    (eqb z.bytes (length h.frames) && eqb z.cells (length h.cells)) ≡ true → lent_sizes (state meaning h) (sizes_in o.lent) ≡ record { bytes = length h.frames; cells = length h.cells }
+own_sizes meaning o h z f e t =
     let p = and_parts (eqb z.bytes (length h.frames)) (eqb z.cells (length h.cells)) t in
-    ap (λ x. lent_sizes (state meaning h) (sizes_in x)) e
-    ∙ ap₂ (λ x y. record { bytes = x; cells = y }) (eqb-true z.bytes (length h.frames) p.0) (eqb-true z.cells (length h.cells) p.1)
+    named_sizes meaning o h z f e ∙ ap₂ (λ x y. record { bytes = x; cells = y }) (eqb-true z.bytes (length h.frames) p.0) (eqb-true z.cells (length h.cells) p.1)
 
-both : (a b : Bool) → cond {A = Option ℕ} a (cond b None (Some 4)) (Some 3) ≡ None → (a ≡ true) × (b ≡ true)
-both true true h = (refl, refl)
-both true false h = let z : ◌≡◌ {A = ℕ} 0 1 = cc in absurd (omega arith)
-both false b h = let z : ◌≡◌ {A = ℕ} 0 1 = cc in absurd (omega arith)
-
--- other sizes than the desk's own are not the pool's
-pub other_sizes : {K : Type 0} (h : Holding K) (z : Sizes) → sizes_of h ≡ None → (eqb z.bytes (length h.frames) && eqb z.cells (length h.cells)) ≡ false →
-    sizes h.pool.frames h.store.size z.bytes z.cells ≡ None → ⊥
-other_sizes h z f t e =
-    let p = both (eqb z.bytes (h.pool.frames * h.store.size)) (eqb z.cells (2 * h.pool.frames)) e in
-    let a = eqb-true z.bytes (h.pool.frames * h.store.size) p.0 ∙ sym (fit_frames h f) in
-    let b = eqb-true z.cells (2 * h.pool.frames) p.1 ∙ sym (fit_cells h f) in
-    differ (eqb z.bytes (length h.frames) && eqb z.cells (length h.cells))
-    (and_from (eqb z.bytes (length h.frames)) (eqb z.cells (length h.cells)) (eq-eqb z.bytes (length h.frames) a) (eq-eqb z.cells (length h.cells) b)) t
+-- a refusal leaves the hands as they are
+kept : (a : model.Ask) (y : Layer) (n : ℕ) (hands : List (Option Loan)) → handed a (denied y n) (hands_in hands) ≡ hands_in hands
+kept (model.ask_borrow k) y n hands = refl
+kept (model.ask_view i) y n hands = refl
+kept (model.ask_alter i offset new) y n hands = refl
+kept (model.ask_return i) y n hands = refl
+kept model.ask_flush y n hands = refl
 
 -- an order that other memory is lent to
 pub turned_step : {K : Type 0} (meaning : K → List ℕ) (o : Order K) (z : Sizes) (h : Holding K) (hands : List (Option Loan)) (r : Reply K) (pool : Pool) (store : Meaning) (left : List (Option Loan)) →
-    AtDesk meaning h hands → o.lent ≡ Some z → Turned meaning o.ask z h.pool h.store hands r pool store left →
+    AtDesk meaning h hands → lent_sizes (state meaning h) (sizes_in o.lent) ≡ record { bytes = z.bytes; cells = z.cells } → Turned meaning o.ask z h.pool h.store hands r pool store left →
     Stepped meaning o h hands r (holding pool h.frames h.cells store) left
 turned_step {K} meaning o z h hands r pool store left w e x = record {
   at = record { fits = ap sizes_of same ∙ w.fits; ready = subst (Ready meaning) (sym same) w.ready; held = subst Held (sym there) w.held };
@@ -126,14 +120,7 @@ turned_step {K} meaning o z h hands r pool store left w e x = record {
     there = ap₂ (λ a b. desk (state meaning a) b) same x.in_hands
 
     say : (q : Option Request) → request_of (ask_in meaning o.ask) (hands_in hands) ≡ q → calling (order_in meaning o) d ≡ call_with (record { bytes = z.bytes; cells = z.cells }) q
-    say q i = ap₂ call_with (ap (λ y. lent_sizes (state meaning h) (sizes_in y)) e) i
-
-    still : (a : model.Ask) (y : Layer) (n : ℕ) → handed a (denied y n) (hands_in hands) ≡ hands_in hands
-    still (model.ask_borrow k) y n = refl
-    still (model.ask_view i) y n = refl
-    still (model.ask_alter i offset new) y n = refl
-    still (model.ask_return i) y n = refl
-    still model.ask_flush y n = refl
+    say q i = ap₂ call_with e i
 
     go : (q : Option Request) → request_of (ask_in meaning o.ask) (hands_in hands) ≡ q → Ordered meaning o d r d
     go None i = record { events = []; plays = subst (λ y. Plays d (order_in meaning o ∷ []) (y ∷ []) [] d) (sym (x.unasked i)) (idles (say None i) rests) }
@@ -145,13 +132,13 @@ turned_step {K} meaning o z h hands r pool store left w e x = record {
           events = event call a ∷ [];
           plays = subst (λ y. Plays d (order_in meaning o ∷ []) (y ∷ []) (event call a ∷ []) d) (sym f.2)
               (calls (say (Some q) i) (f.3 h.frames h.cells w.ready)
-              (subst (λ y. Plays (desk (state meaning h) y) [] [] [] d) (sym (still (ask_in meaning o.ask) f.0 f.1)) rests));
+              (subst (λ y. Plays (desk (state meaning h) y) [] [] [] d) (sym (kept (ask_in meaning o.ask) f.0 f.1 hands)) rests));
         }
 
 -- nothing was done
 pub same_at : {K : Type 0} (meaning : K → List ℕ) (h after : Holding K) (hands left : List (Option Loan)) → AtDesk meaning h hands → Same h hands after left → AtDesk meaning after left
 same_at meaning h after hands left w s =
-    subst (λ y. AtDesk meaning after y) (sym s.in_hands) (subst (λ y. AtDesk meaning y hands) (sym s.same) w)
+    rw (s.same, s.in_hands) w
 
 -- a call with other memory is turned away
 pub turned_away : {K : Type 0} (meaning : K → List ℕ) (ask : Ask K) (z : Sizes) (h after : Holding K) (hands left : List (Option Loan)) (r : Reply K) →
@@ -159,16 +146,6 @@ pub turned_away : {K : Type 0} (meaning : K → List ℕ) (ask : Ask K) (z : Siz
     Called meaning ask h hands r after left → Turned meaning ask z h.pool h.store hands r after.pool after.store left
 turned_away {K} meaning ask z h after hands left r k l u c = go (sizes_of h) refl (request_of (ask_in meaning ask) (hands_in hands)) refl c
   where
-    still : (a : model.Ask) (b : Answer) (y : Layer) (n : ℕ) → b ≡ denied y n → handed a b (hands_in hands) ≡ hands_in hands
-    still a b y n e = subst (λ x. handed a x (hands_in hands) ≡ hands_in hands) (sym e) (at a)
-      where
-        at : (a : model.Ask) → handed a (denied y n) (hands_in hands) ≡ hands_in hands
-        at (model.ask_borrow k) = refl
-        at (model.ask_view i) = refl
-        at (model.ask_alter i offset new) = refl
-        at (model.ask_return i) = refl
-        at model.ask_flush = refl
-
     lens : sizes_of h ≡ sizes h.pool.frames h.store.size z.bytes z.cells
     lens = ap₂ (λ x y. sizes h.pool.frames h.store.size x y) k l
 
@@ -187,7 +164,7 @@ turned_away {K} meaning ask z h after hands left r k l u c = go (sizes_of h) ref
         record {
           same_pool = ap (λ y. y.pool) m.same;
           same_store = ap (λ y. y.store) m.same;
-          in_hands = x.in_hands ∙ still (ask_in meaning ask) x.answer by_pool n m.refused;
+          in_hands = x.in_hands ∙ ap (λ b. handed (ask_in meaning ask) b (hands_in hands)) m.refused ∙ kept (ask_in meaning ask) by_pool n hands;
           unasked = λ j. none_some (request_of (ask_in meaning ask) (hands_in hands)) q j i;
           refused = λ p j.
               let same : q ≡ p = cc in (
@@ -216,7 +193,7 @@ own_order meaning o h after hands left (Err e) w z k l c = (same_at meaning h af
 
 -- an order that other memory is lent to
 pub other_order : {K E : Type 0} (meaning : K → List ℕ) (o : Order K) (z : Sizes) (h : Holding K) (pool : Pool) (store : Meaning) (hands left : List (Option Loan)) (r : Result (Reply K) E) →
-    AtDesk meaning h hands → o.lent ≡ Some z →
+    AtDesk meaning h hands → lent_sizes (state meaning h) (sizes_in o.lent) ≡ record { bytes = z.bytes; cells = z.cells } →
     MatchResult r (λ x. Turned meaning o.ask z h.pool h.store hands x pool store left) (λ _. Untouched h.pool h.store hands pool store left) →
     (AtDesk meaning (holding pool h.frames h.cells store) left)
     × MatchResult r (λ x. Ordered meaning o (desk_of meaning h hands) x (desk_of meaning (holding pool h.frames h.cells store) left)) (λ _. Same h hands (holding pool h.frames h.cells store) left)

@@ -19,9 +19,9 @@ use Rattle.desk.specs.declared.orders.Reply.TheVariants.{Lent, Shown, Done, Wrot
 
 abbrev pub ask_in : {K : Type 0} → (K → List ℕ) → Ask K → desk.Ask
 ask_in meaning (Borrow k) = desk.ask_borrow (meaning k)
-ask_in meaning (View n) = desk.ask_view n
-ask_in meaning (Alter n offset bytes) = desk.ask_alter n offset (vec_items bytes)
-ask_in meaning (Return n) = desk.ask_return n
+ask_in meaning (View hand) = desk.ask_view hand.0
+ask_in meaning (Alter hand offset bytes) = desk.ask_alter hand.0 offset (vec_items bytes)
+ask_in meaning (Return hand) = desk.ask_return hand.0
 ask_in meaning Flush = desk.ask_flush
 
 abbrev pub sizes_in : Option Sizes → Option desk.Sizes

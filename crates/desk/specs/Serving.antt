@@ -8,7 +8,7 @@ use Rattle.std.specs.Prelude.{◌≡◌, ℕ, List, [], ◌∷◌, map, length, 
 use Rattle.stores.specs.Meaning.{Meaning}
 use Rattle.stores.specs.declared.faults.Layer.{Layer}
 use Rattle.chains.specs.declared.cell.Cell.{Cell}
-use Rattle.rows.specs.declared.Entry.{Entry}
+use Rattle.records.specs.declared.entry.Entry.{Entry}
 use Rattle.promise.specs.Serves.{Request, Answer, denied, Serves}
 use Rattle.promise.specs.Book.{Event}
 use Rattle.promise.specs.Desk.{Desk, request_of, handed, Plays, Held, Whole}

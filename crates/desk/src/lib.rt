@@ -4,8 +4,11 @@
 #![tactic(auto)]
 
 mod calling;
+mod hands;
 mod orders;
 mod serving;
+mod state;
 
-pub use orders::{Ask, Lent, Order, Reply, Sizes};
-pub use serving::{blank_cells, serve};
+pub use orders::{Ask, Hand, Lent, Order, Reply, Sizes};
+pub use serving::blank_cells;
+pub use state::Desk;

@@ -1,35 +1,43 @@
 //! What a desk is asked for, and what it replies.
 
 use keys::FrameNo;
-use pool::{PoolFault, PoolNo, Report};
+use pool::{PoolFault, PoolNo};
+use records::Report;
 
-/// What may be asked for. A loan is named by its hand: the n-th granted borrow of the desk has hand n, counted from 0.
-#[derive(Drop)]
+/// The number of a hand: the n-th granted borrow of the desk has hand n, counted from 0.
+#[derive(Clone, Copy, PartialEq, Eq, Debug)]
+pub struct Hand(pub usize);
+
+/// What may be asked for. A loan is named by its hand.
+#[derive(PartialEq, Eq, Debug, Drop)]
 pub enum Ask<K> {
     Borrow(K),
-    View(usize),
-    /// A hand, an offset and bytes.
-    Alter(usize, usize, Vec<u8>),
-    Return(usize),
+    View(Hand),
+    Alter {
+        hand: Hand,
+        offset: usize,
+        bytes: Vec<u8>,
+    },
+    Return(Hand),
     Flush,
 }
 
 /// So many frame bytes, and so many cells.
-#[derive(Clone, Copy)]
+#[derive(Clone, Copy, PartialEq, Eq, Debug)]
 pub struct Sizes {
     pub bytes: usize,
     pub cells: usize,
 }
 
 /// What is asked for, and the memory that the call is lent: the desk's own, or other memory of these sizes.
-#[derive(Drop)]
+#[derive(PartialEq, Eq, Debug, Drop)]
 pub struct Order<K> {
     pub ask: Ask<K>,
     pub lent: Option<Sizes>,
 }
 
 /// A granted borrow. Its loan is in the newest hand.
-#[derive(Clone, Copy)]
+#[derive(Clone, Copy, PartialEq, Eq, Debug)]
 pub struct Lent<K> {
     pub frame: FrameNo,
     pub pool: PoolNo,
@@ -37,7 +45,7 @@ pub struct Lent<K> {
 }
 
 /// What a desk replies.
-#[derive(Drop)]
+#[derive(PartialEq, Eq, Debug, Drop)]
 pub enum Reply<K> {
     Lent(Lent<K>),
     /// A granted view: the page.

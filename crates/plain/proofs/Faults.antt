@@ -9,8 +9,13 @@ use Rattle.machine.proofs.Counts.{differ, none_some, count_both}
 use Rattle.machine.proofs.Calls.{Fair, Roomed, room_roomed, enter_mid, fault_fair, recall_fair, recalled_eased}
 use Rattle.machine.proofs.Loops.{work_small, hot_run_small}
 use Rattle.plain.specs.declared.hands.State.{State}
-use Rattle.plain.specs.Entries.{entry_of}
-use Rattle.plain.specs.Hands.{machine_of}
+use Rattle.keys.specs.declared.FrameNo.{FrameNo}
+use Rattle.records.specs.declared.answers.Outcome.{Outcome}
+use Rattle.records.specs.declared.answers.Steps as made
+use Rattle.records.specs.Reading.{entry_of, keyed, steps_of, outcome_of}
+use Rattle.plain.specs.Hands.{machine_of, Keeps}
+use Rattle.plain.specs.Hands as plain
+use Rattle.records.specs.declared.answers.Room as hands
 use Rattle.plain.specs.Calls.{Away, recalled_if}
 
 -- a place is left for the page that is to enter
@@ -51,6 +56,24 @@ ready_entered m k x h f v n r d = enter_mid m k h f r d.mid d.away
 -- the steps of a test fault fit
 pub fault_steps : (m : ℕ) (s : Machine) (f : ℕ) (v : Option model.Entry) (n : Steps) (r x t : Machine) (h : ℕ) → m ≤ 4096 → Ready m s → Roomed m s f v n r → Mid m None x → HotRun m x h t → n.hots + h < 2 ^ 30
 fault_steps m s f v n r x t h u w d y z = let a = d.steps_fit in let b = work_small m None s u w.mid in let c = hot_run_small m None x h t u y z in omega arith
+
+-- what holds of a fault once its frame is found, from what its two steps said
+module _ {K : Type 0} (meaning : K → List ℕ) (k : List ℕ) (b : Bool) (s : State K) where
+  abbrev pub asked : Machine
+  asked = recalled_if s.frames k b (machine_of meaning s)
+
+  pub record Framed (r : hands.Room (Option K)) (t : State K) : Type 0 where
+    pub victim : Option model.Entry
+    pub named : key_of victim ≡ keyed meaning r.victim
+    pub room : Room s.frames asked r.frame.0 victim (steps_of r.steps) (machine_of meaning t)
+    pub roomed : Roomed s.frames asked r.frame.0 victim (steps_of r.steps) (machine_of meaning t)
+
+  pub framed : (r : hands.Room (Option K)) (x t : State K) → Ready s.frames asked → machine_of meaning x ≡ asked → Keeps s x →
+      plain.Roomed meaning x.frames (machine_of meaning x) r (machine_of meaning t) → Framed r t
+  framed r x t q e c f =
+      let o = subst (λ y. Room x.frames y r.frame.0 f.victim (steps_of r.steps) (machine_of meaning t)) e f.room in
+      let p = subst (λ n. Room n asked r.frame.0 f.victim (steps_of r.steps) (machine_of meaning t)) c.frames o in
+      record { victim = f.victim; named = f.named; room = p; roomed = ready_roomed s.frames asked r.frame.0 f.victim (steps_of r.steps) (machine_of meaning t) q p }
 
 -- WHAT A FAULT ANSWERS
 
@@ -104,3 +127,12 @@ refusal-resident m k s e f b h i j =
 pub hit_answer : (m : ℕ) (k : List ℕ) (s : Machine) (e : model.Entry) (f : ℕ) (t : Machine) → refusal m k s ≡ None → model.first (model.named k) s.ring ≡ Some e → e.frame ≡ Some f → t ≡ hit k s →
     Borrow m k s (granted f (record { outcome = a_hit; victim = None; made = steps 0 0 0; cold = t.cold })) t
 hit_answer m k s e f t q j i h = subst (λ x. Borrow m k s (granted f (record { outcome = a_hit; victim = None; made = steps 0 0 0; cold = x.cold })) x) (sym h) (hits q j i)
+
+-- the same answer, with its parts named otherwise
+pub answer_is : {K : Type 0} (meaning : K → List ℕ) (k : List ℕ) (s : State K) (f : FrameNo) (v : Option (List ℕ)) {o p : Outcome} {n l : made.Steps} {t u : State K} →
+    o ≡ p → n ≡ l → t ≡ u →
+    Borrow s.frames k (machine_of meaning s) (granted f.0 (record { outcome = outcome_of p; victim = v; made = steps_of l; cold = u.cold })) (machine_of meaning u) →
+    Borrow s.frames k (machine_of meaning s) (granted f.0 (record { outcome = outcome_of o; victim = v; made = steps_of n; cold = t.cold })) (machine_of meaning t)
+answer_is {K = K} meaning k s f v {o = o} {p = p} {n = n} {l = l} {t = t} {u = u} a b c h =
+    let P : Outcome → made.Steps → State K → Type 0 = λ o n t. Borrow s.frames k (machine_of meaning s) (granted f.0 (record { outcome = outcome_of o; victim = v; made = steps_of n; cold = t.cold })) (machine_of meaning t) in
+    subst (λ z. P z n t) (sym a) (subst (λ z. P p z t) (sym b) (subst (λ z. P p l z) (sym c) h))

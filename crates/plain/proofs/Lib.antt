@@ -1,4 +1,4 @@
-pub mod Looking
+pub mod Keeping
 pub mod Placing
 pub mod Turning
 pub mod Faults

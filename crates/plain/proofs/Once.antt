@@ -1,5 +1,5 @@
 -- What holds of a simulator at every moment: it has one proof at most, and it does not ask what the keys are.
-use Rattle.std.proofs.Common.{◌≡◌, ℕ, Bool, List, [], ◌∷◌, vec_items, Option, refl, ap, arith}
+use Rattle.std.proofs.Common.{◌≡◌, ℕ, ◌*◌, ◌≤◌, Bool, List, [], ◌∷◌, None, vec_items, vec_capacity, Option, refl, ap, arith}
 use mathlib.Core.Bool.{Bool-set}
 use mathlib.Core.HLevel.{→_prop}
 use mathlib.Core.Logic.{∥∥₁_elim}
@@ -9,10 +9,12 @@ use Rattle.std.specs.List.{AllByRecursion}
 use Rattle.machine.specs.Entry as model
 use Rattle.machine.specs.Hands.{Machine}
 use Rattle.machine.specs.Facts.{Proper, Mid}
-use Rattle.plain.specs.declared.entries.Entry.{Entry}
+use Rattle.records.specs.declared.entry.Entry.{Entry}
 use Rattle.plain.specs.declared.hands.State.{State}
-use Rattle.plain.specs.Entries.{entry_of, entries_of}
-use Rattle.plain.specs.Hands.{machine_of}
+use Rattle.records.specs.Reading.{entry_of, entries_of}
+use Rattle.plain.specs.declared.simulator.Plain.{Plain}
+use Rattle.plain.specs.Hands.{machine_of, Sound, Keeps}
+use Rattle.plain.proofs.Keeping.{sound_then}
 
 proper_once : (e : model.Entry) → IsProp (Proper e)
 proper_once e x y = λ i. record {
@@ -72,3 +74,15 @@ opened_facts meaning m g s w = mid_other (λ _. []) meaning m g s (∥∥₁_eli
 
 pub closed_facts : {K : Type 0} (meaning : K → List ℕ) (m : ℕ) (g : Option ℕ) (s : State K) → Mid m g (machine_of meaning s) → ∥ Mid m g (machine_of (λ _. []) s) ∥₁
 closed_facts meaning m g s w = ∣ mid_other meaning (λ _. []) m g s w ∣₁
+
+pub opened_sound : {K : Type 0} (meaning : K → List ℕ) (p : Plain K) → Sound meaning None p.state
+opened_sound meaning p = record { few = p.few; memory = p.memory; facts = opened_facts meaning p.state.frames None p.state p.facts }
+
+pub record Closed {K : Type 0} (s : State K) : Type 0 where
+  pub few : s.frames ≤ 4096
+  pub memory : 2 * s.frames ≤ vec_capacity s.ring
+  pub facts : ∥ Mid s.frames None (machine_of (λ _. []) s) ∥₁
+
+pub closed_sound : {K : Type 0} (meaning : K → List ℕ) {s t : State K} → Sound meaning None s → Keeps s t → Mid s.frames None (machine_of meaning t) → Closed t
+closed_sound meaning {t = t} h k w =
+    let z = sound_then meaning None None h k w in record { few = z.few; memory = z.memory; facts = closed_facts meaning t.frames None t z.facts }

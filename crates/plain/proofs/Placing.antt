@@ -1,57 +1,82 @@
 -- A change at the place of the first entry that passes a test is a change of the machine's list.
-use Rattle.std.proofs.Common.{◌≡◌, ℕ, suc, ◌<◌, ◌≤◌, Bool, true, false, cond, List, [], ◌∷◌, ◌++◌, map, length, get_or, take, drop, Some, None, Option, sym, refl, ap, ◌∙◌, ap₂, arith}
+use Rattle.std.proofs.Common.{◌≡◌, ℕ, suc, ◌+◌, ◌<◌, ◌≤◌, Bool, true, false, cond, not, ◌||◌, ltb, List, [], ◌∷◌, ◌++◌, map, length, get_or, set, take, drop, Some, None, Option, sym, refl, ap, ◌∙◌, subst, ap₂, zero-add, one-add, arith}
 use Rattle.std.specs.Option.{option_to_list}
-use Rattle.std.proofs.lemmas.List.{map-append}
+use Rattle.std.specs.List.{position_or_len, position, count_by, list_any}
+use Rattle.std.proofs.lemmas.Bool.{lt-ltb, ltb-true, ltb-false}
+use Rattle.std.proofs.lemmas.List.{map-append, set_split}
+use Rattle.std.proofs.lemmas.List.Sums.{sum_by-cons}
+use Rattle.std.proofs.lemmas.Option.{cond_some}
 use Rattle.machine.specs.Entry as model
 use Rattle.machine.specs.Hands.{Machine, turned, turned_cold, hot_step}
-use Rattle.plain.specs.declared.entries.Entry.{Entry}
-use Rattle.plain.specs.declared.entries.Question.{Question}
-use Rattle.plain.specs.Entries.{entry_of, entries_of, listed, asks, place}
-use Rattle.plain.specs.Lists.{Found}
+use Rattle.records.specs.declared.entry.Entry.{Entry}
+use Rattle.records.specs.Reading.{entry_of, entries_of, listed}
+use Rattle.plain.specs.Lists.{place, Found}
+
+cond_none : (b : Bool) (n : ℕ) → cond b (Some n) None ≡ None → b ≡ false
+cond_none true n h = cc
+cond_none false n h = refl
 
 module _ {X : Type 0} (g : X → model.Entry) (p : model.Entry → Bool) where
-  pub place_le : (xs : List X) → place p (map g xs) ≤ length xs
-  place_le [] = omega arith
-  place_le (x ∷ xs) = go (p (g x)) (place_le xs)
-    where
-      go : (b : Bool) → place p (map g xs) ≤ length xs → cond b 0 (suc (place p (map g xs))) ≤ suc (length xs)
-      go true h = omega arith
-      go false h = omega arith
+  abbrev before : List X → ℕ
+  before xs = position_or_len (λ x. p (g x)) xs
+
+  -- the place is within the list
+  pub placed : (xs : List X) (i : ℕ) → position (λ x. p (g x)) xs ≡ Some i → (before xs ≡ i) × (i < length xs)
+  placed xs i h =
+      let k = cond_some (ltb (before xs) (length xs)) (before xs) i h in let l = ltb-true (before xs) (length xs) k.0 in let e = k.1 in (e, omega arith)
 
   -- nobody passes
-  pub first_not : (xs : List X) → length xs ≤ place p (map g xs) → model.first p (map g xs) ≡ None
-  first_not [] h = refl
-  first_not (x ∷ xs) h = go (p (g x)) (λ k. first_not xs k) h
+  not_before : (xs : List X) → length xs ≤ before xs → model.first p (map g xs) ≡ None
+  not_before [] h = refl
+  not_before (x ∷ xs) h = go (p (g x)) (λ k. not_before xs k) h
     where
-      go : (b : Bool) → (length xs ≤ place p (map g xs) → model.first p (map g xs) ≡ None) → suc (length xs) ≤ cond b 0 (suc (place p (map g xs))) →
+      go : (b : Bool) → (length xs ≤ before xs → model.first p (map g xs) ≡ None) → suc (length xs) ≤ cond (not b) (1 + before xs) 0 →
           cond b (Some (g x)) (model.first p (map g xs)) ≡ None
       go true ih h = absurd (omega arith)
       go false ih h = ih (omega arith)
 
+  pub first_not : (xs : List X) → position (λ x. p (g x)) xs ≡ None → model.first p (map g xs) ≡ None
+  first_not xs h = not_before xs (ltb-false (before xs) (length xs) (cond_none (ltb (before xs) (length xs)) (before xs) h))
+
   -- somebody passes, and stands there
-  pub first_at : (xs : List X) (e : X) → place p (map g xs) < length xs → e ≡ get_or xs (place p (map g xs)) e → model.first p (map g xs) ≡ Some (g e)
+  pub first_at : (xs : List X) (e : X) → before xs < length xs → e ≡ get_or xs (before xs) e → model.first p (map g xs) ≡ Some (g e)
   first_at [] e h k = absurd (omega arith)
   first_at (x ∷ xs) e h k = go (p (g x)) (λ i j. first_at xs e i j) h k
     where
-      go : (b : Bool) → (place p (map g xs) < length xs → e ≡ get_or xs (place p (map g xs)) e → model.first p (map g xs) ≡ Some (g e)) →
-          cond b 0 (suc (place p (map g xs))) < suc (length xs) → e ≡ get_or (x ∷ xs) (cond b 0 (suc (place p (map g xs)))) e →
+      go : (b : Bool) → (before xs < length xs → e ≡ get_or xs (before xs) e → model.first p (map g xs) ≡ Some (g e)) →
+          cond (not b) (1 + before xs) 0 < suc (length xs) → e ≡ get_or (x ∷ xs) (cond (not b) (1 + before xs) 0) e →
           cond b (Some (g x)) (model.first p (map g xs)) ≡ Some (g e)
       go true ih h k = ap (λ y. Some (g y)) (sym k)
-      go false ih h k = ih (omega arith) k
+      go false ih h k = ih (omega arith) (subst (λ n. e ≡ get_or (x ∷ xs) n e) (one-add (before xs)) k)
 
   -- and others stand in its place
-  pub replaced_at : (f : model.Entry → List model.Entry) (l : List X) (xs : List X) (e : X) → place p (map g xs) < length xs → e ≡ get_or xs (place p (map g xs)) e → map g l ≡ f (g e) →
-      map g (take (place p (map g xs)) xs ++ (l ++ drop (suc (place p (map g xs))) xs)) ≡ model.replaced p f (map g xs)
+  pub replaced_at : (f : model.Entry → List model.Entry) (l : List X) (xs : List X) (e : X) → before xs < length xs → e ≡ get_or xs (before xs) e → map g l ≡ f (g e) →
+      map g (take (before xs) xs ++ (l ++ drop (suc (before xs)) xs)) ≡ model.replaced p f (map g xs)
   replaced_at f l [] e h k q = absurd (omega arith)
   replaced_at f l (x ∷ xs) e h k q = go (p (g x)) (λ i j. replaced_at f l xs e i j q) h k
     where
-      go : (b : Bool) → (place p (map g xs) < length xs → e ≡ get_or xs (place p (map g xs)) e →
-          map g (take (place p (map g xs)) xs ++ (l ++ drop (suc (place p (map g xs))) xs)) ≡ model.replaced p f (map g xs)) →
-          cond b 0 (suc (place p (map g xs))) < suc (length xs) → e ≡ get_or (x ∷ xs) (cond b 0 (suc (place p (map g xs)))) e →
-          map g (take (cond b 0 (suc (place p (map g xs)))) (x ∷ xs) ++ (l ++ drop (suc (cond b 0 (suc (place p (map g xs))))) (x ∷ xs)))
+      go : (b : Bool) → (before xs < length xs → e ≡ get_or xs (before xs) e →
+          map g (take (before xs) xs ++ (l ++ drop (suc (before xs)) xs)) ≡ model.replaced p f (map g xs)) →
+          cond (not b) (1 + before xs) 0 < suc (length xs) → e ≡ get_or (x ∷ xs) (cond (not b) (1 + before xs) 0) e →
+          map g (take (cond (not b) (1 + before xs) 0) (x ∷ xs) ++ (l ++ drop (suc (cond (not b) (1 + before xs) 0)) (x ∷ xs)))
           ≡ cond b (f (g x) ++ map g xs) (g x ∷ model.replaced p f (map g xs))
       go true ih h k = map-append g l xs ∙ ap (λ y. y ++ map g xs) (q ∙ ap (λ y. f (g y)) k)
-      go false ih h k = ap (λ y. g x ∷ y) (ih (omega arith) k)
+      go false ih h k =
+          subst (λ n. map g (take n (x ∷ xs) ++ (l ++ drop (suc n) (x ∷ xs))) ≡ g x ∷ model.replaced p f (map g xs)) (sym (one-add (before xs)))
+          (ap (λ y. g x ∷ y) (ih (omega arith) (subst (λ n. e ≡ get_or (x ∷ xs) n e) (one-add (before xs)) k)))
+
+  -- how many pass, and whether one does
+  pub counted : (xs : List X) → count_by (λ x. p (g x)) xs ≡ model.count p (map g xs)
+  counted [] = refl
+  counted (x ∷ xs) = let a = sum_by-cons (λ y. cond (p (g y)) 1 0) x xs in let b = counted xs in omega arith
+
+  pub some_counted : (xs : List X) → list_any (λ x. p (g x)) xs ≡ ltb 0 (model.count p (map g xs))
+  some_counted [] = refl
+  some_counted (x ∷ xs) = go (p (g x)) (some_counted xs)
+    where
+      go : (b : Bool) → list_any (λ x. p (g x)) xs ≡ ltb 0 (model.count p (map g xs)) → (b || list_any (λ x. p (g x)) xs) ≡ ltb 0 (cond b 1 0 + model.count p (map g xs))
+      go true ih = sym (lt-ltb 0 (1 + model.count p (map g xs)) (omega arith))
+      go false ih = rw zero-add ih
 
 module _ {K : Type 0} (meaning : K → List ℕ) where
   pub listed_is : (o : Option (Entry K)) → entries_of meaning (option_to_list o) ≡ listed meaning o
@@ -69,40 +94,46 @@ module _ {K : Type 0} (meaning : K → List ℕ) where
       let b : d ≡ turned_cold (entry_of meaning x) c = r ∙ ap (λ y. turned_cold (entry_of meaning y) c) k in
       λ i. record { ring = a i; cold = b i; used = u }
 
-  module _ (q : Question K) (es : List (Entry K)) (at : ℕ) (e : Entry K) (f : Found meaning q es at e) where
-    within : place (asks meaning q) (entries_of meaning es) < length es
-    within = let a = f.first in let b = f.within in omega arith
+  module _ (p : model.Entry → Bool) (es : List (Entry K)) (at : ℕ) (e : Entry K) (f : Found meaning p es at e) where
+    n : (position_or_len (λ x. p (entry_of meaning x)) es ≡ at) × (at < length es)
+    n = placed (entry_of meaning) p es at f.first
 
-    it : e ≡ get_or es (place (asks meaning q) (entries_of meaning es)) e
-    it = f.it ∙ ap (λ n. get_or es n e) f.first
+    within : position_or_len (λ x. p (entry_of meaning x)) es < length es
+    within = let a = n.0 in let b = n.1 in omega arith
 
-    pub found_first : model.first (asks meaning q) (entries_of meaning es) ≡ Some (entry_of meaning e)
-    found_first = first_at (entry_of meaning) (asks meaning q) es e within it
+    it : e ≡ get_or es (position_or_len (λ x. p (entry_of meaning x)) es) e
+    it = f.it ∙ ap (λ n. get_or es n e) (sym n.0)
+
+    pub found_first : model.first p (entries_of meaning es) ≡ Some (entry_of meaning e)
+    found_first = first_at (entry_of meaning) p es e within it
 
     -- another entry, or none, stands in its place
     pub found_put : (h : model.Entry → List model.Entry) (new : Option (Entry K)) (es' : List (Entry K)) → listed meaning new ≡ h (entry_of meaning e) →
-        es' ≡ take at es ++ (option_to_list new ++ drop (suc at) es) → entries_of meaning es' ≡ model.replaced (asks meaning q) h (entries_of meaning es)
+        es' ≡ take at es ++ (option_to_list new ++ drop (suc at) es) → entries_of meaning es' ≡ model.replaced p h (entries_of meaning es)
     found_put h new es' l k =
-        ap (entries_of meaning) (k ∙ ap (λ n. take n es ++ (option_to_list new ++ drop (suc n) es)) f.first)
-        ∙ replaced_at (entry_of meaning) (asks meaning q) h (option_to_list new) es e within it (listed_is new ∙ l)
+        ap (entries_of meaning) (k ∙ ap (λ n. take n es ++ (option_to_list new ++ drop (suc n) es)) (sym n.0))
+        ∙ replaced_at (entry_of meaning) p h (option_to_list new) es e within it (listed_is new ∙ l)
+
+    -- another stands in its place
+    pub found_set : (h : model.Entry → model.Entry) (new : Entry K) (es' : List (Entry K)) → entry_of meaning new ≡ h (entry_of meaning e) →
+        es' ≡ set es at new → entries_of meaning es' ≡ model.replaced p (λ x. h x ∷ []) (entries_of meaning es)
+    found_set h new es' l k = found_put (λ x. h x ∷ []) (Some new) es' (ap (λ x. x ∷ []) l) (k ∙ set_split es at new n.1)
 
     -- it is taken out, and another, or none, stands at the head
     pub found_head : (l : List model.Entry) (new : Option (Entry K)) (es' : List (Entry K)) → listed meaning new ≡ l →
-        es' ≡ (take at es ++ drop (suc at) es) ++ option_to_list new → entries_of meaning es' ≡ model.without (asks meaning q) (entries_of meaning es) ++ l
+        es' ≡ (take at es ++ drop (suc at) es) ++ option_to_list new → entries_of meaning es' ≡ model.without p (entries_of meaning es) ++ l
     found_head l new es' j k =
         ap (entries_of meaning) k
         ∙ map-append (entry_of meaning) (take at es ++ drop (suc at) es) (option_to_list new)
         ∙ ap₂ ◌++◌ (found_put (λ _. []) None (take at es ++ drop (suc at) es) refl refl) (listed_is new ∙ j)
 
-  -- nobody passes
-  pub missing : (q : Question K) (es : List (Entry K)) (at : ℕ) → at ≡ place (asks meaning q) (entries_of meaning es) → length es ≤ at →
-      model.first (asks meaning q) (entries_of meaning es) ≡ None
-  missing q es at h k = first_not (entry_of meaning) (asks meaning q) es (omega arith)
+  -- what a search answered, as a fact of the list
+  pub found : (p : model.Entry → Bool) (es : List (Entry K)) {r : Option ℕ} {at : ℕ} {e : Entry K} → r ≡ place meaning p es → r ≡ Some at → e ≡ get_or es at e → Found meaning p es at e
+  found p es h i k = record { first = sym h ∙ i; it = k }
 
-  -- what is found stands there
-  pub found : (q : Question K) (es : List (Entry K)) (at : ℕ) (e : Entry K) → at ≡ place (asks meaning q) (entries_of meaning es) → (at ≡ length es → ⊥) → e ≡ get_or es at e →
-      Found meaning q es at e
-  found q es at e h k i = record { first = h; within = less; it = i }
-    where
-      less : at < length es
-      less = let a = place_le (entry_of meaning) (asks meaning q) es in omega arith
+  pub first_found : (p : model.Entry → Bool) (es : List (Entry K)) {r : Option ℕ} {at : ℕ} {e : Entry K} → r ≡ place meaning p es → r ≡ Some at → e ≡ get_or es at e →
+      model.first p (entries_of meaning es) ≡ Some (entry_of meaning e)
+  first_found p es {at = at} {e = e} h i k = found_first p es at e (found p es h i k)
+
+  pub none_found : (p : model.Entry → Bool) (es : List (Entry K)) {r : Option ℕ} → r ≡ place meaning p es → r ≡ None → model.first p (entries_of meaning es) ≡ None
+  none_found p es h i = first_not (entry_of meaning) p es (sym h ∙ i)

@@ -1,4 +1,3 @@
-pub mod Entries
 pub mod Lists
 pub mod Hands
 pub mod Calls

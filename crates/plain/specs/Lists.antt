@@ -1,18 +1,18 @@
--- What a search in a list of entries finds.
---   Found   that the first entry that passes a question stands at a place
---   Finds   what a search answers: that entry with its place, or that there is none
-use Rattle.std.specs.Prelude.{◌≡◌, ℕ, ◌<◌, List, length, Some, None, Option, slice_index_or}
+-- Looking through a list of entries, by a question of the machine's.
+--   place   the index of the first entry that passes, if there is one
+--   tally   how many entries pass
+--   Found   that this entry is the one, and stands at this place
+use Rattle.std.specs.Prelude.{◌≡◌, ℕ, Bool, List, Some, Option, count_by, position, slice_index_or}
 use Rattle.machine.specs.Entry as model
-use Rattle.plain.specs.declared.entries.Entry.{Entry}
-use Rattle.plain.specs.declared.entries.Question.{Question}
-use Rattle.plain.specs.declared.lists.Spot.{Spot}
-use Rattle.plain.specs.Entries.{entries_of, asks, place}
+use Rattle.records.specs.declared.entry.Entry.{Entry}
+use Rattle.records.specs.Reading.{entry_of}
 
-pub record Found {K : Type 0} (meaning : K → List ℕ) (question : Question K) (es : List (Entry K)) (at : ℕ) (e : Entry K) : Type 0 where
-  pub first : at ≡ place (asks meaning question) (entries_of meaning es)
-  pub within : at < length es
+abbrev pub place : {K : Type 0} → (K → List ℕ) → (model.Entry → Bool) → List (Entry K) → Option ℕ
+place meaning p es = position (λ e. p (entry_of meaning e)) es
+
+abbrev pub tally : {K : Type 0} → (K → List ℕ) → (model.Entry → Bool) → List (Entry K) → ℕ
+tally meaning p es = count_by (λ e. p (entry_of meaning e)) es
+
+pub record Found {K : Type 0} (meaning : K → List ℕ) (p : model.Entry → Bool) (es : List (Entry K)) (at : ℕ) (e : Entry K) : Type 0 where
+  pub first : place meaning p es ≡ Some at
   pub it : e ≡ slice_index_or es at e
-
-abbrev pub Finds : {K : Type 0} → (K → List ℕ) → Question K → List (Entry K) → Option (Spot K) → Type 0
-Finds meaning question es None = model.first (asks meaning question) (entries_of meaning es) ≡ None
-Finds meaning question es (Some s) = Found meaning question es s.at s.entry

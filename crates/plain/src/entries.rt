@@ -1,91 +1,12 @@
-//! The entry of a ring, the questions that the rules ask of it, and what a hand or a call makes of it.
+//! What a hand or a call makes of an entry.
 
 ghost use Rattle.std.specs.Prelude.{◌≡◌, ◌<◌};
-ghost use Rattle.machine.specs.Hands.{turned, turned_cold, tested, left, promoted, retested, lowered, raised};
+ghost use Rattle.machine.specs.Hands.{turned, turned_cold, tested, left, promoted, retested};
 ghost use Rattle.machine.specs.Borrow.{entered, lent, repaid, marking};
-ghost use Rattle.machine.specs.Entry.{idle, lies_in};
-ghost use Rattle.plain.specs.Entries.{entry_of, asks, listed};
+ghost use Rattle.records.specs.Reading.{entry_of, listed};
 
 use keys::{FrameNo, Key};
-
-/// A key's record in the ring.
-#[derive(Clone, Copy)]
-pub struct Entry<K> {
-    pub key: K,
-    pub hot: bool,
-    /// The frame that its page lies in; `None` where the page has left and the key is only remembered.
-    pub frame: Option<FrameNo>,
-    pub test: bool,
-    pub bit: bool,
-    pub loans: u8,
-    pub altered: bool,
-}
-
-/// A question about an entry.
-#[derive(Clone, Copy)]
-pub(crate) enum Question<K> {
-    /// Is it hot?
-    Hot,
-    /// Has its page left?
-    Remembered,
-    /// Is it resident without a loan?
-    Idle,
-    /// Is it resident and cold without a loan? The candidate is the first such entry.
-    Free,
-    /// Has it the test mark?
-    Marked,
-    /// Has it this key?
-    Named(K),
-    /// Does its page lie in this frame?
-    LiesIn(FrameNo),
-}
-
-fn is_idle<K: Key>(e: &Entry<K>) -> bool
-    ensures { result ≡ idle (entry_of K.Key.meaning e.now) }
-{
-    match e.frame {
-        Some(_) => e.loans == 0,
-        None => false,
-    }
-}
-
-fn is_in<K: Key>(e: &Entry<K>, wanted: FrameNo) -> bool
-    ensures { result ≡ lies_in wanted.0 (entry_of K.Key.meaning e.now) }
-{
-    match e.frame {
-        Some(f) => wanted.0 == f.0,
-        None => false,
-    }
-}
-
-/// The answer to a question about an entry.
-pub(crate) fn passes<K: Key>(e: &Entry<K>, question: &Question<K>) -> bool
-    ensures { result ≡ asks K.Key.meaning question.now (entry_of K.Key.meaning e.now) }
-{
-    match question {
-        Question::Hot => e.hot,
-        Question::Remembered => e.frame.is_none(),
-        Question::Idle => is_idle(e),
-        Question::Free => !e.hot && is_idle(e),
-        Question::Marked => e.test,
-        Question::Named(key) => key.same(&e.key),
-        Question::LiesIn(frame) => is_in(e, *frame),
-    }
-}
-
-/// The cold allocation, lowered.
-pub(crate) fn lower(c: u32) -> u32
-    ensures { result ≡ lowered c }
-{
-    if 1 < c { c - 1 } else { c }
-}
-
-/// The cold allocation, raised.
-pub(crate) fn raise(m: u32, c: u32) -> u32
-    ensures { result ≡ raised m c }
-{
-    if c < m.saturating_sub(1) { c + 1 } else { c }
-}
+use records::{Entry, lower};
 
 /// What the hot step puts at the head for the entry at the tail.
 pub(crate) fn after_hot_step<K: Key + Copy>(e: Entry<K>) -> Option<Entry<K>>
@@ -119,28 +40,22 @@ pub(crate) fn cold_after_hot_step<K: Key>(e: &Entry<K>, c: u32) -> u32
 pub(crate) fn after_test_step<K: Key + Copy>(e: Entry<K>) -> Option<Entry<K>>
     ensures { listed K.Key.meaning result ≡ tested (entry_of K.Key.meaning e) }
 {
-    match e.frame {
-        Some(_) => Some(Entry { test: false, ..e }),
-        None => None,
-    }
+    e.frame.map(|_| Entry { test: false, ..e })
 }
 
 /// What stays of a victim, in its place.
 pub(crate) fn after_eviction<K: Key + Copy>(e: Entry<K>) -> Option<Entry<K>>
     ensures { listed K.Key.meaning result ≡ left (entry_of K.Key.meaning e) }
 {
-    if e.test {
-        return Some(Entry {
-            hot: false,
-            frame: None,
-            test: true,
-            bit: false,
-            loans: 0,
-            altered: false,
-            ..e
-        });
-    }
-    None
+    e.test.then_some(Entry {
+        hot: false,
+        frame: None,
+        test: true,
+        bit: false,
+        loans: 0,
+        altered: false,
+        ..e
+    })
 }
 
 /// A candidate with bit and test mark becomes hot and loses both.

@@ -5,38 +5,34 @@
 //! `Letters` prints it. Each call is the list machine's call on the state that the simulator holds, read by `machine_of`.
 //! All memory is taken at opening, so that no later call can fail for want of it. No call asks anything of its caller.
 
+// stays: hands, runs and calls stand here as they do in the ring, on a list in place of cells. The comparison of the two is
+// worth something since they were written apart; what they have in common are their records.
+
 #![tactic(auto)]
 
 ghost use Rattle.std.specs.Prelude.{◌≡◌, nat_lt};
 ghost use Rattle.machine.specs.Entry.{first, named};
 ghost use Rattle.machine.specs.Borrow as rules;
-ghost use Rattle.plain.specs.Entries.{frame_of};
+ghost use Rattle.records.specs.Reading.{frame_of, answer_of};
 ghost use Rattle.plain.specs.Hands.{machine_of};
-ghost use Rattle.plain.specs.Calls.{answer_of};
 ghost use Rattle.plain.specs.Simulator.{Opens, held_in};
 
-pub mod calls;
-pub mod entries;
-pub mod hands;
+mod calls;
+mod entries;
+mod error;
+mod hands;
 mod lists;
-pub mod show;
+mod looking;
+mod show;
 mod simulator;
 
-use calls::{Granted, Refusal};
-use entries::{Entry, Question};
+pub use error::OpenError;
 use hands::State;
 use keys::{FrameNo, Key};
+use records::{Entry, Granted, Refusal};
+pub use show::{Letter, Letters};
 pub use simulator::Plain;
 use std::alloc::Global;
-
-/// Why a simulator does not open.
-#[derive(Clone, Copy, PartialEq, Eq, Debug)]
-pub enum OpenError {
-    /// The number of frames is not from 2 to 4,096.
-    FrameCount,
-    /// There is no memory for twice as many entries.
-    Memory,
-}
 
 impl<K: Key + Copy> Plain<K> {
     /// Opens an empty simulator, and takes the memory for every entry that there can be.
@@ -46,32 +42,29 @@ impl<K: Key + Copy> Plain<K> {
         if frames < 2 || 4096 < frames {
             return Err(OpenError::FrameCount);
         }
-        match Vec::with_capacity(heap, 2 * frames as usize) {
-            Ok(ring) => Ok(Plain {
-                state: State {
-                    ring,
-                    cold: frames - 1,
-                    used: 0,
-                },
-                frames,
-            }),
-            Err(_) => Err(OpenError::Memory),
-        }
+        let ring = Vec::with_capacity(heap, 2 * frames as usize)?;
+        let state = State {
+            ring,
+            cold: frames - 1,
+            used: 0,
+            frames,
+        };
+        Ok(Plain { state })
     }
 
     /// Borrows a key. A refusal alters nothing.
     pub fn borrow(&mut self, key: K) -> Result<Granted<K>, Refusal>
-        ensures borrowed { rules.Borrow self.old.frames (K.Key.meaning key) (machine_of K.Key.meaning self.old.state) (answer_of K.Key.meaning result) (machine_of K.Key.meaning self.new.state) }
-        ensures frames { self.new.frames ≡ self.old.frames }
+        ensures borrowed { rules.Borrow self.old.state.frames (K.Key.meaning key) (machine_of K.Key.meaning self.old.state) (answer_of K.Key.meaning result) (machine_of K.Key.meaning self.new.state) }
+        ensures frames { self.new.state.frames ≡ self.old.state.frames }
     {
-        self.state.borrow(self.frames, key)
+        self.state.borrow(key)
     }
 
     /// Takes one loan off a frame. Where the frame carries none, the answer is no and nothing changes.
     pub fn give_back(&mut self, frame: FrameNo) -> bool
         ensures carried { result ≡ nat_lt 0 (rules.carries frame.0 (machine_of K.Key.meaning self.old.state)) }
         ensures returned { machine_of K.Key.meaning self.new.state ≡ rules.give_back frame.0 (machine_of K.Key.meaning self.old.state) }
-        ensures frames { self.new.frames ≡ self.old.frames }
+        ensures frames { self.new.state.frames ≡ self.old.state.frames }
     {
         self.state.give_back(frame)
     }
@@ -79,7 +72,7 @@ impl<K: Key + Copy> Plain<K> {
     /// Sets or clears the altered mark of the page in a frame.
     pub fn mark_page(&mut self, frame: FrameNo, altered: bool)
         ensures marked { machine_of K.Key.meaning self.new.state ≡ rules.mark_page frame.0 altered (machine_of K.Key.meaning self.old.state) }
-        ensures frames { self.new.frames ≡ self.old.frames }
+        ensures frames { self.new.state.frames ≡ self.old.state.frames }
     {
         self.state.mark_page(frame, altered)
     }
@@ -88,10 +81,8 @@ impl<K: Key + Copy> Plain<K> {
     pub fn frame_of(&self, key: K) -> Option<FrameNo>
         ensures { frame_of result ≡ held_in (first (named (K.Key.meaning key)) (machine_of K.Key.meaning self.now.state).ring) }
     {
-        match lists::find(&self.state.ring, Question::Named(key)) {
-            Some(spot) => spot.entry.frame,
-            None => None,
-        }
+        let at = self.state.place_of(&key)?;
+        self.state.ring[at].frame
     }
 
     /// The ring, from the tail to the head.

@@ -3,21 +3,34 @@
 
 ghost use Rattle.std.specs.Prelude.{◌≡◌, Some};
 ghost use Rattle.machine.specs.Rows.{seen};
-ghost use Rattle.plain.specs.Entries.{entry_of};
-ghost use Rattle.plain.specs.Show.{seen_of, spelled};
+ghost use Rattle.records.specs.Reading.{entry_of};
+ghost use Rattle.plain.specs.Show.{seen_of, initial, spelled};
 
-use crate::entries::Entry;
 use keys::Key;
+use records::Entry;
 use std::fmt;
 
-#[derive(Clone, Copy)]
+/// Whether an entry is hot, and whether its page has left.
+#[derive(Clone, Copy, PartialEq, Eq, Debug)]
 pub enum Letter {
     Hot,
     Cold,
     Remembered,
 }
 
-#[derive(Clone, Copy)]
+impl fmt::Display for Letter {
+    ghost output = { λ l. Some (initial l) };
+
+    fn fmt<W: fmt::Write>(&self, f: &mut fmt::Formatter<W>) -> fmt::Result {
+        f.write_str(match self {
+            Letter::Hot => "H",
+            Letter::Cold => "C",
+            Letter::Remembered => "N",
+        })
+    }
+}
+
+#[derive(Clone, Copy, PartialEq, Eq, Debug)]
 pub struct Letters {
     pub letter: Letter,
     /// The test mark of a resident; every remembered entry has it, and it is not shown.
@@ -25,44 +38,19 @@ pub struct Letters {
     pub bit: bool,
 }
 
-impl<K: Key> Entry<K> {
-    /// What the ring shows of the entry.
-    pub fn letters(&self) -> Letters
-        ensures { seen_of (K.Key.meaning self.now.key) result ≡ seen (entry_of K.Key.meaning self.now) }
-    {
-        let letter = match (self.hot, self.frame) {
+/// What the ring shows of an entry.
+impl<K: Key> From<&Entry<K>> for Letters {
+    ghost from_gives = { λ e r. seen_of (K.Key.meaning e.now.key) r ≡ seen (entry_of K.Key.meaning e.now) };
+
+    fn from(e: &Entry<K>) -> Letters {
+        let letter = match (e.hot, e.frame) {
             (true, _) => Letter::Hot,
             (false, Some(_)) => Letter::Cold,
             (false, None) => Letter::Remembered,
         };
-        let test = self.frame.is_some() && self.test;
-        Letters {
-            letter,
-            test,
-            bit: self.bit,
-        }
-    }
-}
-
-impl Letters {
-    /// The letters as text.
-    pub fn text(self) -> &'static str
-        ensures { result.now ≡ spelled self }
-    {
-        match (self.letter, self.test, self.bit) {
-            (Letter::Hot, false, false) => "H",
-            (Letter::Hot, false, true) => "H*",
-            (Letter::Hot, true, false) => "Ht",
-            (Letter::Hot, true, true) => "Ht*",
-            (Letter::Cold, false, false) => "C",
-            (Letter::Cold, false, true) => "C*",
-            (Letter::Cold, true, false) => "Ct",
-            (Letter::Cold, true, true) => "Ct*",
-            (Letter::Remembered, false, false) => "N",
-            (Letter::Remembered, false, true) => "N*",
-            (Letter::Remembered, true, false) => "Nt",
-            (Letter::Remembered, true, true) => "Nt*",
-        }
+        let test = e.frame.is_some() && e.test;
+        let bit = e.bit;
+        Letters { letter, test, bit }
     }
 }
 
@@ -70,6 +58,9 @@ impl fmt::Display for Letters {
     ghost output = { λ l. Some (spelled l) };
 
     fn fmt<W: fmt::Write>(&self, f: &mut fmt::Formatter<W>) -> fmt::Result {
-        f.write_str(self.text())
+        let letter = self.letter;
+        let test = if self.test { "t" } else { "" };
+        let bit = if self.bit { "*" } else { "" };
+        write!(f, "{letter}{test}{bit}")
     }
 }

@@ -6,13 +6,12 @@ ghost use Rattle.plain.specs.Hands.{machine_of};
 
 use crate::hands::State;
 
-/// A simulator: its state, and the number of frames. The machine's facts about marks, frames and numbers hold of every
-/// simulator; they do not ask what the keys are, so each key stands for nothing in them.
+/// A simulator: its state. The machine's facts about marks, frames and numbers hold of every simulator; they do not ask
+/// what the keys are, so each key stands for nothing in them.
 #[derive(Drop)]
 pub struct Plain<K> {
     pub(crate) state: State<K>,
-    pub(crate) frames: u32,
-    ghost few: { frames ≤ 4096 },
-    ghost memory: { 2 * frames ≤ vec_capacity state.ring },
-    ghost facts: { ∥ Mid frames None (machine_of (λ _. []) state) ∥₁ },
+    ghost few: { state.frames ≤ 4096 },
+    ghost memory: { 2 * state.frames ≤ vec_capacity state.ring },
+    ghost facts: { ∥ Mid state.frames None (machine_of (λ _. []) state) ∥₁ },
 }

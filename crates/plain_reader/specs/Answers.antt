@@ -1,5 +1,10 @@
-use Rattle.std.specs.Prelude.{◌≡◌, ℕ, ◌⊎◌}
+use Rattle.std.specs.Prelude.{ℕ}
+use Rattle.plain_reader.specs.declared.PlainFault.{PlainFault}
+use Rattle.plain_reader.specs.declared.PlainFault.TheVariants.{PageSize, SectionOne, Rows, SectionTwo}
 
--- the answers to an opening: none, or the number of one of its four questions
-abbrev pub Known : ℕ → Type 0
-Known n = (n ≡ 0) ⊎ (n ≡ 1) ⊎ (n ≡ 5) ⊎ (n ≡ 6) ⊎ (n ≡ 7)
+-- the number of each refusal
+abbrev pub number : PlainFault → ℕ
+number PageSize = 1
+number SectionOne = 5
+number Rows = 6
+number SectionTwo = 7

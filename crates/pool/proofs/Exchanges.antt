@@ -1,5 +1,5 @@
 -- From the ring's answer to a borrow to what the pool does with the pages.
-use Rattle.std.proofs.Common.{◌≡◌, ℕ, ◌+◌, ◌*◌, ◌≤◌, Bool, true, false, cond, List, [], is_some, Some, None, Option, unwrap_or, sym, refl, ap, ◌∙◌, subst, ap₂, arith}
+use Rattle.std.proofs.Common.{◌≡◌, ℕ, ◌+◌, ◌*◌, ◌≤◌, true, false, cond, List, [], is_some, Some, None, Option, unwrap_or, option_map, sym, refl, ap, ◌∙◌, subst, ap₂}
 use Rattle.machine.specs.Entry.{Entry}
 use Rattle.machine.specs.Hands.{Machine, Steps}
 use Rattle.machine.specs.Borrow as rules
@@ -7,42 +7,30 @@ use Rattle.machine.specs.Borrow.{Report, granted, refused, Borrow, refusal, key_
 use Rattle.machine.proofs.Counts.{none_some}
 use Rattle.stores.specs.Meaning.{Meaning, held, page_of, with_page}
 use Rattle.stores.specs.Parts.{part_of, laid}
-use Rattle.ring.specs.Answering.{outcome_of, victim_key, WrittenAt, number_of}
+use Rattle.ring.specs.Answering.{victim_key, told, WrittenAt}
 use Rattle.ring.specs.declared.hands.Victim.{Victim}
-use Rattle.ring.specs.declared.calls.Outcome.{Outcome}
-use Rattle.ring.specs.declared.calls.Outcome.TheVariants.{Hit, TestFault, ColdFault}
-use Rattle.ring.specs.declared.calls.Refusal.{Refusal}
-use Rattle.ring.specs.declared.calls.Refusal.TheVariants.{TooManyLoans, NoFrame}
+use Rattle.records.specs.declared.answers.Outcome.{Outcome}
+use Rattle.records.specs.declared.answers.Outcome.TheVariants.{Hit, TestFault, ColdFault}
+use Rattle.records.specs.declared.answers.Refusal.{Refusal}
+use Rattle.records.specs.declared.answers.Refusal.TheVariants.{TooManyLoans, NoFrame}
 use Rattle.promise.specs.State.{State, part, occupant, holds}
 use Rattle.promise.specs.Serves as serves
 use Rattle.promise.specs.Serves.{Answer, lends, loan_of, denied, by_pool, by_store, to_borrow, by_machine, asked_borrow, asked, sent_out, borrows, Serves}
 use Rattle.promise.specs.Facts.{Facts}
-use Rattle.promise.proofs.Bytes.{row}
+use Rattle.stores.proofs.Bytes.{row}
 use Rattle.promise.proofs.Uses.{storing}
-use Rattle.stores.specs.Faults as stores
-use Rattle.stores.specs.declared.faults.StoreFault.{StoreFault}
-use Rattle.ring.specs.Model.{steps_of}
-use Rattle.ring.specs.declared.calls.Granted.{Granted}
+use Rattle.records.specs.Reading.{steps_of, outcome_of, number_of, keyed}
+use Rattle.records.specs.declared.answers.Granted.{Granted}
 use Rattle.pool.specs.Faults.{denial, from_ring}
-use Rattle.pool.specs.declared.faults.PoolFault.TheVariants.{ByStore}
-use Rattle.pool.specs.declared.state.Report as pool
+use Rattle.records.specs.declared.answers.Report as pool
 use Rattle.pool.specs.Moving.{Takes, sent_by, TakesAfter, sent_after, filled_after}
 use Rattle.pool.specs.Asked.{Holding, state, sizes_of}
-use Rattle.pool.specs.Reading.{call_of, keyed, gone, report_in, report_by}
+use Rattle.pool.specs.Reading.{call_of, report_in}
 use Rattle.pool.proofs.Sizes.{refused_served, granted_served}
 
 pub denial_ring : (e : Refusal) → denial (from_ring e) ≡ denied by_pool (number_of e)
 denial_ring TooManyLoans = refl
 denial_ring NoFrame = refl
-
--- a question of the store's, asked in its own fault
-pub store_denied : (f : StoreFault) (b : Bool) (n : ℕ) → Some (stores.number f) ≡ cond b None (Some n) → (b ≡ false) × (denial (ByStore f) ≡ denied by_store n)
-store_denied f true n h = let z : ◌≡◌ {A = ℕ} 0 1 = cc in absurd (omega arith)
-store_denied f false n h = let z : stores.number f ≡ n = cc in (refl, ap (denied by_store) z)
-
-pub store_yes : (b : Bool) (n : ℕ) → None ≡ cond b None (Some n) → b ≡ true
-store_yes true n h = refl
-store_yes false n h = let z : ◌≡◌ {A = ℕ} 0 1 = cc in absurd (omega arith)
 
 why_granted : (m : ℕ) (k : List ℕ) {s t : Machine} {f : ℕ} {r : Report} → Borrow m k s (granted f r) t → refusal m k s ≡ None
 why_granted m k (hits h j i) = h
@@ -53,12 +41,12 @@ why_refused : (m : ℕ) (k : List ℕ) {s t : Machine} {n : ℕ} → Borrow m k 
 why_refused m k (rules.refuses h) = (h, refl)
 
 some_page : (o : Option (List ℕ)) → is_some o ≡ true → o ≡ Some (unwrap_or o [])
-some_page None h = let z : ◌≡◌ {A = ℕ} 0 1 = cc in absurd (omega arith)
+some_page None h = absurd cc
 some_page (Some x) h = refl
 
 no_page : (o : Option (List ℕ)) → is_some o ≡ false → o ≡ None
 no_page None h = refl
-no_page (Some x) h = let z : ◌≡◌ {A = ℕ} 0 1 = cc in absurd (omega arith)
+no_page (Some x) h = absurd cc
 
 -- 9
 pub unheld_served : {K : Type 0} (meaning : K → List ℕ) (k : List ℕ) (h : Holding K) → sizes_of h ≡ None → held h.store k ≡ false →
@@ -75,8 +63,7 @@ denied_served meaning k h n t e i b =
     let w = why_refused h.pool.frames k b in
     let p = some_page (h.store.pages k) i in
     let a : asked (to_borrow k) s ≡ Some (denied by_pool n) = ap (λ o. asked_borrow k s o) p ∙ ap by_machine w.0 in
-    subst (λ x. Serves (call_of (to_borrow k) h.frames h.cells) s (denied by_pool n) (record { number = h.pool.number.0; count = h.pool.frames; machine = x; bytes = h.frames; store = h.store }))
-    (sym w.1) (refused_served meaning (to_borrow k) h (denied by_pool n) e a)
+    rw w.1 (refused_served meaning (to_borrow k) h (denied by_pool n) e a)
 
 -- the victim that the ring answers is what lay in the frame
 same_sent : {K : Type 0} (meaning : K → List ℕ) (v : Option (Victim K)) (o : Option Entry) (page : List ℕ) (store : Meaning) →
@@ -99,17 +86,17 @@ same_takes meaning (Some v) (Some e) store h i j =
     λ c. (ap (λ k. is_some (store.pages k)) a ∙ (j e refl).0, (j e refl).1 (sym (i v refl) ∙ c))
 
 written_all : {K : Type 0} (s : Machine) (f : ℕ) (v : Option (Victim K)) → WrittenAt s f v → (w : Victim K) → v ≡ Some w → w.altered ≡ altered_at (rules.occupant f s)
-written_all s f None h w e = let z : ◌≡◌ {A = ℕ} 0 1 = cc in absurd (omega arith)
+written_all s f None h w e = absurd cc
 written_all s f (Some v) h w e = let z : v ≡ w = cc in subst (λ x. x.altered ≡ altered_at (rules.occupant f s)) z h
 
 -- What moving the pages of a granted borrow needs, and what it comes to.
-pub record Exchange {K : Type 0} (meaning : K → List ℕ) (h : Holding K) (p : ℕ) (k : List ℕ) (o : Outcome) (v : Option (Victim K)) (f : ℕ) (r : Report) (t : Machine) : Type 0 where
-  pub part : f * p + p ≤ h.pool.frames * h.store.size
+pub record Exchange {K : Type 0} (meaning : K → List ℕ) (h : Holding K) (k : List ℕ) (o : Outcome) (v : Option (Victim K)) (f : ℕ) (r : Report) (t : Machine) : Type 0 where
+  pub part : f * h.store.size + h.store.size ≤ h.pool.frames * h.store.size
   pub takes : TakesAfter meaning o v h.store
-  pub holds : held (sent_after meaning o v (part_of p h.frames f) h.store) k ≡ true
+  pub holds : held (sent_after meaning o v (part_of h.store.size h.frames f) h.store) k ≡ true
   pub serves : (frames : List ℕ) (store : Meaning) →
-      frames ≡ filled_after o (f * p) (page_of (sent_after meaning o v (part_of p h.frames f) h.store) k) h.frames →
-      store ≡ sent_after meaning o v (part_of p h.frames f) h.store →
+      frames ≡ filled_after o (f * h.store.size) (page_of (sent_after meaning o v (part_of h.store.size h.frames f) h.store) k) h.frames →
+      store ≡ sent_after meaning o v (part_of h.store.size h.frames f) h.store →
       Serves (call_of (to_borrow k) h.frames h.cells) (state meaning h) (lends (loan_of f h.pool.number.0) r)
       (record { number = h.pool.number.0; count = h.pool.frames; machine = t; bytes = frames; store = store })
 
@@ -120,9 +107,7 @@ after h t frames store = record { number = h.pool.number.0; count = h.pool.frame
 swapped : {K : Type 0} (meaning : K → List ℕ) (h : Holding K) (k : List ℕ) (a : Answer) (t : Machine) (x y : List ℕ) (u w : Meaning) → x ≡ y → u ≡ w →
     Serves (call_of (to_borrow k) h.frames h.cells) (state meaning h) a (after h t y w) →
     Serves (call_of (to_borrow k) h.frames h.cells) (state meaning h) a (after h t x u)
-swapped meaning h k a t x y u w e i d =
-    subst (λ z. Serves (call_of (to_borrow k) h.frames h.cells) (state meaning h) a (after h t z u)) (sym e)
-    (subst (λ z. Serves (call_of (to_borrow k) h.frames h.cells) (state meaning h) a (after h t y z)) (sym i) d)
+swapped meaning h k a t x y u w e i d = rw (e, i) d
 
 abbrev pub reported : {K : Type 0} → (K → List ℕ) → Outcome → Option (Victim K) → Steps → ℕ → Report
 reported meaning o v n c = record { outcome = outcome_of o; victim = victim_key meaning v; made = n; cold = c }
@@ -130,7 +115,7 @@ reported meaning o v n c = record { outcome = outcome_of o; victim = victim_key 
 pub exchange : {K : Type 0} (meaning : K → List ℕ) (h : Holding K) (k : List ℕ) (o : Outcome) (v : Option (Victim K)) (n : Steps) (c f : ℕ) (t : Machine) →
     sizes_of h ≡ None → Facts (state meaning h) → held h.store k ≡ true →
     Borrow h.pool.frames k (state meaning h).machine (granted f (reported meaning o v n c)) t → WrittenAt (state meaning h).machine f v →
-    Exchange meaning h h.store.size k o v f (reported meaning o v n c) t
+    Exchange meaning h k o v f (reported meaning o v n c) t
 exchange {K} meaning h k o v n c f t e facts i b w = go o b
   where
     s : State
@@ -166,7 +151,7 @@ exchange {K} meaning h k o v n c f t e facts i b w = go o b
     reads : victim_key meaning v ≡ holds f s → (sent_out (part s f) (occupant f s) h.store).pages k ≡ h.store.pages k → (sent_by meaning v (part s f) h.store).pages k ≡ h.store.pages k
     reads j q = ap (λ x. x.pages k) (sent j) ∙ q
 
-    go : (o : Outcome) → Borrow h.pool.frames k s.machine (granted f (reported meaning o v n c)) t → Exchange meaning h p k o v f (reported meaning o v n c) t
+    go : (o : Outcome) → Borrow h.pool.frames k s.machine (granted f (reported meaning o v n c)) t → Exchange meaning h k o v f (reported meaning o v n c) t
     go Hit d = record {
       part = lies (reported meaning Hit v n c) d;
       takes = tt;
@@ -194,24 +179,22 @@ exchange {K} meaning h k o v n c f t e facts i b w = go o b
               (a ∙ ap (λ z. laid (f * p) (unwrap_or z []) h.frames) q) (u ∙ sent j) (served (reported meaning ColdFault v n c) d);
         }
 
--- the same, by what the ring answers, and with P as the code has it
-pub exchange_of : {K : Type 0} (meaning : K → List ℕ) (h : Holding K) (p : ℕ) (k : List ℕ) (g : Granted K) (t : Machine) → p ≡ h.store.size →
+-- the same, by what the ring answers
+pub exchange_of : {K : Type 0} (meaning : K → List ℕ) (h : Holding K) (k : List ℕ) (g : Granted (Victim K)) (t : Machine) →
     sizes_of h ≡ None → Facts (state meaning h) → held h.store k ≡ true →
     Borrow h.pool.frames k (state meaning h).machine (granted g.frame.0 (reported meaning g.report.outcome g.report.victim (steps_of g.report.steps) g.report.cold)) t →
     WrittenAt (state meaning h).machine g.frame.0 g.report.victim →
-    Exchange meaning h p k g.report.outcome g.report.victim g.frame.0 (reported meaning g.report.outcome g.report.victim (steps_of g.report.steps) g.report.cold) t
-exchange_of meaning h p k g t i e facts d b w =
-    let r = reported meaning g.report.outcome g.report.victim (steps_of g.report.steps) g.report.cold in
-    subst (λ x. Exchange meaning h x k g.report.outcome g.report.victim g.frame.0 r t) (sym i)
-    (exchange meaning h k g.report.outcome g.report.victim (steps_of g.report.steps) g.report.cold g.frame.0 t e facts d b w)
+    Exchange meaning h k g.report.outcome g.report.victim g.frame.0 (reported meaning g.report.outcome g.report.victim (steps_of g.report.steps) g.report.cold) t
+exchange_of meaning h k g t e facts d b w =
+    exchange meaning h k g.report.outcome g.report.victim (steps_of g.report.steps) g.report.cold g.frame.0 t e facts d b w
 
 -- the pool reports what the ring does
-keyed-gone : {K : Type 0} (meaning : K → List ℕ) (v : Option (Victim K)) → keyed meaning (gone v) ≡ victim_key meaning v
-keyed-gone meaning None = refl
-keyed-gone meaning (Some v) = refl
+keyed-told : {K : Type 0} (meaning : K → List ℕ) (v : Option (Victim K)) → keyed meaning (option_map (λ w. w.key) v) ≡ victim_key meaning v
+keyed-told meaning None = refl
+keyed-told meaning (Some v) = refl
 
-pub same_report : {K : Type 0} (meaning : K → List ℕ) (g : Granted K) (r : pool.Report K) → r ≡ report_by g →
-    report_in meaning r ≡ reported meaning g.report.outcome g.report.victim (steps_of g.report.steps) g.report.cold
-same_report meaning g r e =
+pub same_report : {K : Type 0} (meaning : K → List ℕ) (v : pool.Report (Victim K)) (r : pool.Report K) → r ≡ told v →
+    report_in meaning r ≡ reported meaning v.outcome v.victim (steps_of v.steps) v.cold
+same_report meaning v r e =
     ap (report_in meaning) e
-    ∙ ap (λ x. record { outcome = outcome_of g.report.outcome; victim = x; made = steps_of g.report.steps; cold = g.report.cold }) (keyed-gone meaning g.report.victim)
+    ∙ ap (λ x. record { outcome = outcome_of v.outcome; victim = x; made = steps_of v.steps; cold = v.cold }) (keyed-told meaning v.victim)

@@ -95,16 +95,10 @@ finish meaning h n t store w e v i f =
     let a : t ≡ unaltered s.machine = f.marks ∙ ap (λ k. clean_below k s.machine) i ∙ x.0 in
     let b : store ≡ written_below s.count s = f.stored ∙ ap (λ k. written_below k s) i in
     let d : w ≡ count is_altered s.machine.ring = f.written ∙ ap (λ k. writes k s.machine) i ∙ x.1 in
-    subst (λ y. Serves (call_of to_flush h.frames h.cells) s (wrote y) (record { number = s.number; count = s.count; machine = t; bytes = s.bytes; store = store })) (sym d)
-    (subst (λ y. Serves (call_of to_flush h.frames h.cells) s (wrote (count is_altered s.machine.ring)) (record { number = s.number; count = s.count; machine = y; bytes = s.bytes; store = store })) (sym a)
-    (subst (λ y. Serves (call_of to_flush h.frames h.cells) s (wrote (count is_altered s.machine.ring)) (record { number = s.number; count = s.count; machine = unaltered s.machine; bytes = s.bytes; store = y })) (sym b)
-    (granted_served meaning to_flush h (wrote (count is_altered s.machine.ring)) (flushed s) e refl flushes)))
+    rw (a, b, d) (granted_served meaning to_flush h (wrote (count is_altered s.machine.ring)) (flushed s) e refl flushes)
 
 -- the same, where the pool is as it was but for its ring
 pub finish_of : {K : Type 0} (meaning : K → List ℕ) (h : Holding K) (a b n : ℕ) (t : Machine) (store : Meaning) (w : ℕ) → sizes_of h ≡ None → Facts (state meaning h) →
     a ≡ h.pool.number.0 → b ≡ h.pool.frames → n ≡ h.pool.frames → Flushing (state meaning h) n t store w →
     Serves (call_of to_flush h.frames h.cells) (state meaning h) (wrote w) (record { number = a; count = b; machine = t; bytes = h.frames; store = store })
-finish_of meaning h a b n t store w e v i j k f =
-    subst (λ x. Serves (call_of to_flush h.frames h.cells) (state meaning h) (wrote w) (record { number = x; count = b; machine = t; bytes = h.frames; store = store })) (sym i)
-    (subst (λ x. Serves (call_of to_flush h.frames h.cells) (state meaning h) (wrote w) (record { number = h.pool.number.0; count = x; machine = t; bytes = h.frames; store = store })) (sym j)
-    (finish meaning h n t store w e v k f))
+finish_of meaning h a b n t store w e v i j k f = rw (i, j) (finish meaning h n t store w e v k f)

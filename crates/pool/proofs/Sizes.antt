@@ -1,39 +1,34 @@
 -- The two sizes, and where a frame lies.
-use Rattle.std.proofs.Common.{◌≡◌, ℕ, ◌+◌, ◌*◌, ◌<◌, ◌≤◌, Bool, true, false, cond, eqb, ltb, List, length, Some, None, Option, refl, ◌∙◌, arith}
-use Rattle.std.proofs.lemmas.Bool.{eqb-true, ltb-true, and_parts, cond-true}
+use Rattle.std.proofs.Common.{◌≡◌, ℕ, ◌+◌, ◌*◌, ◌<◌, ◌≤◌, true, eqb, ltb, List, length, Some, None, Option, refl, ◌∙◌, arith}
+use Rattle.std.proofs.lemmas.Bool.{ltb-true, and_parts}
+use Rattle.std.proofs.lemmas.Bool.Decides.{nat_tests}
 use Rattle.machine.specs.Entry.{Entry}
 use Rattle.machine.specs.Borrow.{loans_at, carries}
-use Rattle.promise.specs.State.{State, page_size, occupant}
-use Rattle.promise.specs.Serves.{Loan, Request, Answer, by_pool, denied, good, asked, questions, Does, Serves, refuses, grants}
+use Rattle.promise.specs.State.{State, occupant}
+use Rattle.promise.specs.Serves.{Loan, Request, Answer, good, asked, questions, Does, Serves, refuses, grants}
 use Rattle.promise.specs.Facts.{Facts}
-use Rattle.promise.proofs.Bytes.{row}
+use Rattle.stores.proofs.Bytes.{row}
 use Rattle.promise.proofs.Uses.{storing}
-use Rattle.pool.specs.Asked.{Holding, state, sizes_of}
+use Rattle.pool.specs.Asked.{Holding, state, sizes, sizes_of}
 use Rattle.pool.specs.Reading.{call_of}
 
-both : (a b : Bool) → cond {A = Option ℕ} a (cond b None (Some 4)) (Some 3) ≡ None → (a ≡ true) × (b ≡ true)
-both true true h = (refl, refl)
-both true false h = let z : ◌≡◌ {A = ℕ} 0 1 = cc in absurd (omega arith)
-both false b h = let z : ◌≡◌ {A = ℕ} 0 1 = cc in absurd (omega arith)
-
-pub fit_tests : {K : Type 0} (h : Holding K) → sizes_of h ≡ None →
-    (eqb (length h.frames) (h.pool.frames * h.store.size) ≡ true) × (eqb (length h.cells) (2 * h.pool.frames) ≡ true)
-fit_tests h e = both (eqb (length h.frames) (h.pool.frames * h.store.size)) (eqb (length h.cells) (2 * h.pool.frames)) e
+-- memory of the right sizes has them
+pub fit_parts : (m p b c : ℕ) → sizes m p b c ≡ None → (b ≡ m * p) × (c ≡ 2 * m)
+fit_parts m p b c e = (grind (arith, nat_tests), grind (arith, nat_tests))
 
 pub fit_frames : {K : Type 0} (h : Holding K) → sizes_of h ≡ None → length h.frames ≡ h.pool.frames * h.store.size
-fit_frames h e = eqb-true (length h.frames) (h.pool.frames * h.store.size) (fit_tests h e).0
+fit_frames h e = (fit_parts h.pool.frames h.store.size (length h.frames) (length h.cells) e).0
 
 pub fit_cells : {K : Type 0} (h : Holding K) → sizes_of h ≡ None → length h.cells ≡ 2 * h.pool.frames
-fit_cells h e = eqb-true (length h.cells) (2 * h.pool.frames) (fit_tests h e).1
+fit_cells h e = (fit_parts h.pool.frames h.store.size (length h.frames) (length h.cells) e).1
 
 -- a call that was lent memory of its sizes comes to its own questions
 pub own_questions : {K : Type 0} (meaning : K → List ℕ) (q : Request) (h : Holding K) → sizes_of h ≡ None →
     questions (call_of q h.frames h.cells) (state meaning h) ≡ asked q (state meaning h)
 own_questions meaning q h e =
-    let s = state meaning h in
-    let t = fit_tests h e in
-    cond-true (eqb (length h.frames) (s.count * page_size s)) (cond (eqb (length h.cells) (2 * s.count)) (asked q s) (Some (denied by_pool 4))) (Some (denied by_pool 3)) t.0
-    ∙ cond-true (eqb (length h.cells) (2 * s.count)) (asked q s) (Some (denied by_pool 4)) t.1
+    let x = fit_frames h e in
+    let y = fit_cells h e in
+    grind (arith, nat_tests)
 
 pub refused_served : {K : Type 0} (meaning : K → List ℕ) (q : Request) (h : Holding K) (a : Answer) → sizes_of h ≡ None →
     asked q (state meaning h) ≡ Some a → Serves (call_of q h.frames h.cells) (state meaning h) a (state meaning h)

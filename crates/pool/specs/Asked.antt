@@ -1,23 +1,21 @@
 -- What a call of a pool supposes and what it owes.
 --   Holding, holding   what a caller lends: the pool, frame bytes, cells, and what the store means
 --   state              the same as one state of the promise
---   sizes, misfit      the two questions before all others
+--   sizes, sizes_of    the two questions before all others
 --   Ready              that all is as opening or the call before left it
 --   Supposed           what a call supposes: nothing, if it was lent memory of other sizes
 --   Asked              what a call owes
 --   Opened             what set-up owes
-use Rattle.std.specs.Prelude.{◌≡◌, ℕ, ◌*◌, cond, List, [], length, Some, None, Ok, Err, Option, Result, ◌==◌}
+use Rattle.std.specs.Prelude.{◌≡◌, ℕ, ◌*◌, cond, List, [], length, Some, None, Option, ◌==◌}
 use Rattle.stores.specs.Meaning.{Meaning}
 use Rattle.chains.specs.declared.cell.Cell.{Cell}
-use Rattle.rows.specs.declared.Entry.{Entry}
+use Rattle.records.specs.declared.entry.Entry.{Entry}
 use Rattle.rows.specs.Rows.{Stands}
 use Rattle.promise.specs.State.{State, Opening}
 use Rattle.promise.specs.Serves.{Request, Answer, by_pool, denied}
 use Rattle.promise.specs.Uses as promise
 use Rattle.promise.specs.Uses.{Led, Served}
 use Rattle.pool.specs.declared.state.Pool.{Pool}
-use Rattle.pool.specs.declared.faults.PoolFault.{PoolFault}
-use Rattle.pool.specs.declared.faults.PoolFault.TheVariants.{FrameBytes, Cells}
 use Rattle.pool.specs.Reading.{state_of, call_of}
 
 pub record Holding (K : Type 0) : Type 0 where
@@ -35,10 +33,6 @@ state meaning h = state_of meaning h.pool h.frames h.cells h.store
 -- Are there m × P frame bytes? 3. Are there 2 × m cells? 4.
 abbrev pub sizes : ℕ → ℕ → ℕ → ℕ → Option ℕ
 sizes m p bytes cells = cond (bytes == m * p) (cond (cells == 2 * m) None (Some 4)) (Some 3)
-
--- the same two questions, with the fault of each
-abbrev pub misfit : ℕ → ℕ → ℕ → ℕ → Result (Unit {0}) PoolFault
-misfit m p bytes cells = cond (bytes == m * p) (cond (cells == 2 * m) (Ok tt) (Err Cells)) (Err FrameBytes)
 
 abbrev pub sizes_of : {K : Type 0} → Holding K → Option ℕ
 sizes_of h = sizes h.pool.frames h.store.size (length h.frames) (length h.cells)

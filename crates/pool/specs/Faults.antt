@@ -7,8 +7,8 @@ use Rattle.std.specs.Prelude.{ℕ, List, Some, None, Ok, Err, codes, Option, Res
 use Rattle.stores.specs.Faults as stores
 use Rattle.stores.specs.declared.faults.Layer.{Layer}
 use Rattle.stores.specs.declared.faults.Layer.TheVariants.{Store, Pool}
-use Rattle.ring.specs.declared.calls.Refusal.{Refusal}
-use Rattle.ring.specs.declared.calls.Refusal.TheVariants.{TooManyLoans, NoFrame}
+use Rattle.records.specs.declared.answers.Refusal.{Refusal}
+use Rattle.records.specs.declared.answers.Refusal.TheVariants.{TooManyLoans, NoFrame}
 use Rattle.promise.specs.Serves.{Answer, denied}
 use Rattle.pool.specs.declared.faults.PoolFault.{PoolFault}
 use Rattle.pool.specs.declared.faults.PoolFault.TheVariants.{PageSize, FrameCount, FrameBytes, Cells, LoanLimit, AllOnLoan, NotOnLoan, PastPage, ByStore}

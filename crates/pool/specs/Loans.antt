@@ -5,7 +5,7 @@
 use Rattle.std.specs.Prelude.{◌≡◌, ℕ, ◌+◌, ◌-◌, cond, Ok, Err, Result, ◌==◌}
 use Rattle.pool.specs.declared.state.Pool.{Pool}
 use Rattle.pool.specs.declared.state.Loan.{Loan}
-use Rattle.pool.specs.declared.state.Report.{Report}
+use Rattle.records.specs.declared.answers.Report.{Report}
 use Rattle.pool.specs.declared.faults.PoolFault.{PoolFault}
 
 abbrev pub lent_at : {K : Type 0} → Result (Loan × Report K) PoolFault → ℕ → ℕ → ℕ

@@ -1,15 +1,20 @@
 -- Pages between frames and store.
+--   HasPart               that a frame's part lies within the frame bytes
 --   Takes, TakesAfter     that the store takes a victim's page; and after which outcomes it has to
 --   sent_by, sent_after     the store, after a victim's page was written to it if it was altered
 --   TakesFrom             that the store takes the page of an entry, if it was altered
 --   filled_after           the frame bytes, after a page was laid into a frame
-use Rattle.std.specs.Prelude.{◌≡◌, ℕ, true, cond, List, Some, None, Option}
+use Rattle.std.specs.Prelude.{◌≡◌, ℕ, ◌+◌, ◌*◌, ◌≤◌, true, cond, List, Some, None, Option}
 use Rattle.stores.specs.Meaning.{Meaning, held, with_page}
 use Rattle.stores.specs.Parts.{laid}
 use Rattle.machine.specs.Entry.{Entry}
 use Rattle.ring.specs.declared.hands.Victim.{Victim}
-use Rattle.ring.specs.declared.calls.Outcome.{Outcome}
-use Rattle.ring.specs.declared.calls.Outcome.TheVariants.{Hit, TestFault, ColdFault}
+use Rattle.records.specs.declared.answers.Outcome.{Outcome}
+use Rattle.records.specs.declared.answers.Outcome.TheVariants.{Hit, TestFault, ColdFault}
+
+-- a frame's part of `size` bytes lies within so many frame bytes
+abbrev pub HasPart : ℕ → ℕ → ℕ → Type 0
+HasPart size f bytes = f * size + size ≤ bytes
 
 abbrev pub Takes : {K : Type 0} → (K → List ℕ) → Option (Victim K) → Meaning → Type 0
 Takes meaning None store = Unit {0}

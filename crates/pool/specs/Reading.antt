@@ -1,25 +1,22 @@
 -- How the values of the code are read as those of the promise.
 --   state_of           pool, frame bytes, cells and what the store means, as one state
 --   loan_in, report_in  a loan and a report
---   report_by          what the ring reports, as the pool does
 --   call_of            a request with the memory that it was lent
 --   lent_by, shown_by, altered_by, returned_by, flushed_by   what a call answers
 --   carried           the loans that a frame carries
-use Rattle.std.specs.Prelude.{ℕ, List, length, Some, None, Ok, Err, Option, Result}
+use Rattle.std.specs.Prelude.{ℕ, List, length, Ok, Err, Result}
 use Rattle.std.specs.Borrow.{Bor}
 use Rattle.stores.specs.Meaning.{Meaning}
 use Rattle.chains.specs.declared.cell.Cell.{Cell}
-use Rattle.rows.specs.declared.Entry.{Entry}
-use Rattle.ring.specs.Model.{machine_of, steps_of}
-use Rattle.ring.specs.Answering.{outcome_of}
-use Rattle.ring.specs.declared.hands.Victim.{Victim}
-use Rattle.ring.specs.declared.calls.Granted.{Granted}
+use Rattle.records.specs.declared.entry.Entry.{Entry}
+use Rattle.records.specs.Reading.{report_of}
+use Rattle.ring.specs.Model.{machine_of}
 use Rattle.machine.specs.Borrow as rules
 use Rattle.promise.specs.State.{State}
 use Rattle.promise.specs.Serves as model
 use Rattle.pool.specs.declared.state.Pool.{Pool}
 use Rattle.pool.specs.declared.state.Loan.{Loan}
-use Rattle.pool.specs.declared.state.Report.{Report}
+use Rattle.records.specs.declared.answers.Report.{Report}
 use Rattle.pool.specs.declared.faults.PoolFault.{PoolFault}
 use Rattle.pool.specs.Faults.{denial}
 
@@ -29,21 +26,8 @@ state_of meaning pool frames cells store = record { number = pool.number.0; coun
 abbrev pub loan_in : Loan → model.Loan
 loan_in l = model.loan_of l.frame.0 l.pool.0
 
--- a key, if there is one, by its meaning
-abbrev pub keyed : {K : Type 0} → (K → List ℕ) → Option K → Option (List ℕ)
-keyed meaning None = None
-keyed meaning (Some k) = Some (meaning k)
-
 abbrev pub report_in : {K : Type 0} → (K → List ℕ) → Report K → rules.Report
-report_in meaning r = record { outcome = outcome_of r.outcome; victim = keyed meaning r.victim; made = steps_of r.steps; cold = r.cold }
-
--- what the ring reports, as the pool does: of the victim its key only
-abbrev pub gone : {K : Type 0} → Option (Victim K) → Option K
-gone None = None
-gone (Some v) = Some v.key
-
-abbrev pub report_by : {K : Type 0} → Granted K → Report K
-report_by g = record { outcome = g.report.outcome; victim = gone g.report.victim; steps = g.report.steps; cold = g.report.cold }
+report_in meaning r = report_of meaning r
 
 abbrev pub call_of : {K : Type 0} → model.Request → List ℕ → List (Cell (Entry K)) → model.Call
 call_of q frames cells = record { bytes = length frames; cells = length cells; request = q }

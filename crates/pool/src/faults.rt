@@ -4,7 +4,8 @@ ghost use Rattle.std.specs.Prelude.{◌≡◌, Some};
 ghost use Rattle.pool.specs.Faults.{number, layer_of, reason, from_ring};
 ghost use Rattle.pool.specs.declared.faults.PoolFault.TheVariants.{ByStore};
 
-use ring::Refusal;
+use records::Refusal;
+use std::error::Error;
 use std::fmt;
 use stores::{Layer, StoreFault};
 
@@ -85,6 +86,8 @@ impl fmt::Display for PoolFault {
         f.write_str(self.reason())
     }
 }
+
+impl Error for PoolFault {}
 
 /// A store's fault is carried whole, with its number and its layer.
 impl From<StoreFault> for PoolFault {

@@ -5,10 +5,9 @@
 mod calls;
 mod faults;
 mod flushing;
-mod lending;
 mod moving;
 mod opening;
 mod state;
 
 pub use faults::PoolFault;
-pub use state::{Loan, Pool, PoolNo, Report};
+pub use state::{Loan, Pool, PoolNo};

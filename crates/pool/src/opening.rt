@@ -1,23 +1,49 @@
 //! Opening a pool: the questions, then the set-up that supposes their yes.
 
-ghost use Rattle.std.specs.Prelude.{◌≡◌, ℕ, length, None};
+ghost use Rattle.std.specs.Prelude.{◌≡◌, ℕ, ◌&&◌, length, None, IfErr, nat_le};
 ghost use Rattle.promise.specs.State.{open_refusal};
-ghost use Rattle.pool.specs.Faults.{refused};
+ghost use Rattle.promise.specs.Serves.{by_pool};
+ghost use Rattle.pool.specs.Faults.{refused, layer_of};
 ghost use Rattle.pool.specs.Reading.{carried};
-ghost use Rattle.pool.specs.Asked.{holding, Opened};
+ghost use Rattle.pool.specs.Asked.{holding, sizes, Opened};
 
 use crate::faults::PoolFault;
 use crate::state::{Pool, PoolNo};
 use chains::Cell;
 use keys::Key;
-use rows::Entry;
-use stores::Store;
-
-const LARGEST_PAGE: usize = 4096;
+use records::Entry;
+use ring::Ring;
+use stores::{Store, is_page_size};
 
 const FEWEST_FRAMES: u32 = 2;
 
 const MOST_FRAMES: u32 = 4096;
+
+// 2: may a pool have m frames?
+fn is_frame_count(m: u32) -> bool
+    ensures { result ≡ (nat_le 2 m && nat_le m 4096) }
+{
+    (FEWEST_FRAMES..=MOST_FRAMES).contains(&m)
+}
+
+// 3 and 4: are there m × P frame bytes, and two cells for each frame?
+pub(crate) fn check_sizes<K>(
+    m: u32,
+    size: usize,
+    frames: &[u8],
+    cells: &[Cell<Entry<K>>],
+) -> Result<(), PoolFault>
+    ensures number { refused result ≡ sizes m size (length frames.now) (length cells.now) }
+    ensures layer { IfErr result (λ f. layer_of f ≡ by_pool) }
+{
+    if frames.len() as u128 != m as u128 * size as u128 {
+        return Err(PoolFault::FrameBytes);
+    }
+    if cells.len() != 2 * m as usize {
+        return Err(PoolFault::Cells);
+    }
+    Ok(())
+}
 
 impl Pool {
     /// The questions of opening a pool of m frames over the store, with these frame bytes and cells.
@@ -30,19 +56,13 @@ impl Pool {
         ensures { refused result ≡ open_refusal (S.Store.meant store.now).size m (length frames.now) (length cells.now) }
     {
         let size = store.page_size();
-        if size < 1 || size > LARGEST_PAGE {
+        if !is_page_size(size) {
             return Err(PoolFault::PageSize);
         }
-        if m < FEWEST_FRAMES || m > MOST_FRAMES {
+        if !is_frame_count(m) {
             return Err(PoolFault::FrameCount);
         }
-        if frames.len() != m as usize * size {
-            return Err(PoolFault::FrameBytes);
-        }
-        if cells.len() != 2 * m as usize {
-            return Err(PoolFault::Cells);
-        }
-        Ok(())
+        check_sizes(m, size, frames, cells)
     }
 
     /// The pool, empty; `check` has said yes. All cells are emptied, and the frame bytes stay as they are found.
@@ -61,7 +81,7 @@ impl Pool {
     {
         // with the answer comes the law that every page of the store has P bytes
         let _size = store.page_size();
-        let ring = ring::open(cells, m);
+        let ring = Ring::open(cells, m);
         Pool {
             number,
             frames: m,

@@ -1,9 +1,9 @@
-//! The pool, a loan and a report, as values.
+//! The pool and a loan, as values.
 
 ghost use Rattle.std.specs.Prelude.{◌≡◌};
 
 use keys::FrameNo;
-use ring::{Outcome, Ring, Steps};
+use ring::Ring;
 
 /// The number of a pool, given to it when it is opened. It tells the loans of one pool from those of another.
 #[derive(Clone, Copy, PartialEq, Eq, Debug)]
@@ -23,18 +23,6 @@ pub struct Pool {
 pub struct Loan {
     pub(crate) frame: FrameNo,
     pub(crate) pool: PoolNo,
-}
-
-/// What a granted borrow reports.
-#[derive(Clone, Copy)]
-pub struct Report<K> {
-    pub outcome: Outcome,
-    /// The key whose page left its frame, if one did.
-    pub victim: Option<K>,
-    /// The cold, hot and test steps of this call.
-    pub steps: Steps,
-    /// The cold allocation c after it.
-    pub cold: u32,
 }
 
 impl Loan {

@@ -13,7 +13,7 @@ use Rattle.promise.specs.Serves.{Request, to_borrow, to_view, to_alter, to_retur
 use Rattle.promise.specs.Serves as serves
 use Rattle.promise.specs.Uses.{Session, ends, next}
 use Rattle.promise.specs.Evaluate.{Result, eval_lent, eval_borrowing, eval_does, eval_asked, eval_call, Played, played, eval_session, Evaluates, file_pages, file, sample, Sample}
-use Rattle.promise.proofs.Bytes.{part_length}
+use Rattle.stores.proofs.Bytes.{part_length}
 
 -- a property of what is given, if something is
 abbrev Given : {A : Type 0} → (A → Type 0) → Option A → Type 0

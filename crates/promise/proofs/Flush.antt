@@ -13,7 +13,7 @@ use Rattle.stores.specs.Parts.{part_of}
 use Rattle.promise.specs.Serves.{written_below, unaltered, flushed}
 use Rattle.promise.specs.Book.{Book}
 use Rattle.promise.proofs.Pages.{At, Away, Unique, exact, passed, passes, one_key}
-use Rattle.promise.proofs.Bytes.{part_length}
+use Rattle.stores.proofs.Bytes.{part_length}
 use Rattle.promise.proofs.Invariant.{Known, Inv, ring_of, inv_unique, at_below, at_or_away}
 use Rattle.promise.proofs.Sent.{sent_size, sent_open, sent_other, sent_here}
 

@@ -13,7 +13,7 @@ use Rattle.stores.specs.Parts.{part_of}
 use Rattle.promise.specs.Serves.{Loan, done, good, to_alter, to_return, altered, taken_back}
 use Rattle.promise.specs.Book.{Book, laid_in, laid_at, noted}
 use Rattle.promise.proofs.Pages.{At, Unique, first_counts, at_frame, frame_at, Turn, Change, turn_change}
-use Rattle.promise.proofs.Bytes.{part_same, part_other, laid_fits}
+use Rattle.stores.proofs.Bytes.{part_same, part_other, laid_fits}
 use Rattle.promise.proofs.Invariant.{Inv, ring_of, inv_unique, at_below, away_same, inv_change}
 
 -- one entry is changed in its place

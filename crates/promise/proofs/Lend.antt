@@ -16,7 +16,7 @@ use Rattle.stores.specs.Parts.{part_of}
 use Rattle.promise.specs.Serves.{loan_of, lends, to_borrow, sent_out, borrowed}
 use Rattle.promise.specs.Book.{Book, noted}
 use Rattle.promise.proofs.Pages.{At, Away, Unique, well_unique, exactly, passes, first_counts, at_frame, key_at, frame_at, one_key, one_frame, Turn, Change, turn_change}
-use Rattle.promise.proofs.Bytes.{part_length, filled_same, filled_other, filled_fits}
+use Rattle.stores.proofs.Bytes.{part_length, filled_same, filled_other, filled_fits}
 use Rattle.promise.proofs.Invariant.{Inv, ring_of, inv_unique, at_below, away_none, away_left, empty_none, at_or_not, away_same, inv_change}
 use Rattle.promise.proofs.Frames.{turn_replaced}
 use Rattle.promise.proofs.Sent.{sent_size, sent_open, sent_other, sent_here}

@@ -18,7 +18,7 @@ use Rattle.promise.specs.Facts.{Facts}
 use Rattle.promise.specs.Promise.{Reaches, opens, goes_on, Lasts, Lasting}
 use Rattle.promise.specs.Uses.{seen, OneStep, Carrying, Led, Limits, Owed, Session, ends, next, Whole, is_fault, Storing}
 use Rattle.promise.proofs.Pages.{At, Away, Empty, Unique, well_unique, at_key, at_frame, key_at, frame_at, one_key}
-use Rattle.promise.proofs.Bytes.{part_length}
+use Rattle.stores.proofs.Bytes.{part_length}
 use Rattle.promise.proofs.Invariant.{Inv, ring_of, inv_unique, inv_sound, inv_facts, at_below, at_or_not, at_or_away}
 use Rattle.promise.proofs.Sent.{sent_size, sent_open, sent_other, sent_here}
 use Rattle.promise.proofs.Lend.{Way, borrow_way}

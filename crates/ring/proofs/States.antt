@@ -4,8 +4,9 @@ use Rattle.keys.specs.declared.FrameNo.{FrameNo}
 use Rattle.std.specs.List.{ContainsAt}
 use Rattle.std.proofs.lemmas.List.{map-append}
 use Rattle.chains.specs.declared.cell.Cell.{Cell}
-use Rattle.rows.specs.Rows.{rows_in, without_cell, replaced, first_row, first_by, remembered, idle, number, Stands}
-use Rattle.rows.specs.declared.Entry.{Entry}
+use Rattle.records.specs.Questions.{remembered, idle}
+use Rattle.rows.specs.Rows.{rows_in, without_cell, replaced, first_row, first_by, number, Stands}
+use Rattle.records.specs.declared.entry.Entry.{Entry}
 use Rattle.rows.specs.declared.Row.{Row}
 use Rattle.rows.proofs.Stand.{tail_parts, cells_apart}
 use Rattle.rows.proofs.Walks.{nearest, nearest_has}
@@ -13,7 +14,8 @@ use Rattle.machine.specs.Entry as model
 use Rattle.machine.specs.Hands.{Machine, turned, turned_by, turned_cold, turned_cold_by, cleared, cooled, unmarked, lowered, hot_ring, hot_cold, hot_step}
 use Rattle.machine.proofs.Counts.{none_some}
 use Rattle.machine.proofs.Calls.{Fair}
-use Rattle.ring.specs.Model.{entry_in, entries_in, frame_in, machine_of}
+use Rattle.records.specs.Reading.{entry_of, frame_of}
+use Rattle.ring.specs.Model.{entries_in, machine_of}
 use Rattle.ring.specs.declared.Ring.{Ring}
 use Rattle.ring.proofs.Lists.{count_in, none_in, first_in, cut_in, put_in, turn_in, remembered_is, idle_is}
 
@@ -70,11 +72,11 @@ pub unmarked-same : (e : model.Entry) → e.test ≡ false → unmarked e ≡ e
 unmarked-same e t = λ i. record { key = e.key; hot = e.hot; frame = e.frame; test = sym t i; bit = e.bit; loans = e.loans; altered = e.altered }
 
 -- a frame is there or not
-pub here : (o : Option FrameNo) (f : FrameNo) → o ≡ Some f → is_some (frame_in o) ≡ true
-here o f e = ap (λ x. is_some (frame_in x)) e
+pub here : (o : Option FrameNo) (f : FrameNo) → o ≡ Some f → is_some (frame_of o) ≡ true
+here o f e = ap (λ x. is_some (frame_of x)) e
 
-pub gone : (o : Option FrameNo) → o ≡ None → is_some (frame_in o) ≡ false
-gone o e = ap (λ x. is_some (frame_in x)) e
+pub gone : (o : Option FrameNo) → o ≡ None → is_some (frame_of o) ≡ false
+gone o e = ap (λ x. is_some (frame_of x)) e
 
 module _ {K : Type 0} (m : K → List ℕ) (cells : List (Cell (Entry K))) (ring : Ring) where
   -- the parts of the state
@@ -102,7 +104,7 @@ module _ {K : Type 0} (m : K → List ℕ) (cells : List (Cell (Entry K))) (ring
   unfolding machine_of
   idles_are n e = e ∙ sym (count_in m model.idle idle (idle_is m) (rows_in cells ring.table))
 
-  pub none_found : (p : model.Entry → Bool) (q : Entry K → Bool) → ((e : Entry K) → p (entry_in m e) ≡ q e) → first_by q (rows_in cells ring.table) ≡ None
+  pub none_found : (p : model.Entry → Bool) (q : Entry K → Bool) → ((e : Entry K) → p (entry_of m e) ≡ q e) → first_by q (rows_in cells ring.table) ≡ None
       → model.first p (machine_of m cells ring).ring ≡ None
   unfolding machine_of
   none_found p q agree e = none_in m p q agree (rows_in cells ring.table) e
@@ -121,26 +123,26 @@ module _ {K : Type 0} (m : K → List ℕ) (cells : List (Cell (Entry K))) (ring
         go (r ∷ rs) h = none_some (first_row (r ∷ rs)) r h refl
 
     module _ (cells' : List (Cell (Entry K))) (ring' : Ring) (used : ring'.used ≡ ring.used) (r : Row K) (e : first_row (rows_in cells ring.table) ≡ Some r)
-        (cold : ring'.cold ≡ turned_cold (entry_in m r.entry) ring.cold) where
+        (cold : ring'.cold ≡ turned_cold (entry_of m r.entry) ring.cold) where
       tail_cold : ring'.cold ≡ hot_cold (entries_in m (rows_in cells ring.table)) ring.cold
       tail_cold = cold ∙ ap (λ l. hot_cold (entries_in m l) ring.cold) (sym (tail_parts cells ring.table st r e).1)
 
       -- it went to the head
       pub tail_turned : (new : Entry K) → rows_in cells' ring'.table ≡ without_cell r.cell.0 (rows_in cells ring.table) ++ record { cell = r.cell; entry = new } ∷ []
-          → turned (entry_in m r.entry) ≡ entry_in m new ∷ [] → machine_of m cells' ring' ≡ hot_step (machine_of m cells ring)
+          → turned (entry_of m r.entry) ≡ entry_of m new ∷ [] → machine_of m cells' ring' ≡ hot_step (machine_of m cells ring)
       unfolding machine_of
       tail_turned new rows law =
           let t = tail_parts cells ring.table st r e in
           let a : entries_in m (rows_in cells' ring'.table) ≡ hot_ring (entries_in m (rows_in cells ring.table)) =
           ap (entries_in m) (rows ∙ ap (λ l. l ++ record { cell = r.cell; entry = new } ∷ []) t.2)
-          ∙ map-append (λ x. entry_in m x.entry) t.0 (record { cell = r.cell; entry = new } ∷ [])
+          ∙ map-append (λ x. entry_of m x.entry) t.0 (record { cell = r.cell; entry = new } ∷ [])
           ∙ ap (λ l. entries_in m t.0 ++ l) (sym law)
           ∙ ap (λ l. hot_ring (entries_in m l)) (sym t.1) in
           λ i. record { ring = a i; cold = tail_cold i; used = used i }
 
       -- it was removed
       pub tail_cut : rows_in cells' ring'.table ≡ without_cell r.cell.0 (rows_in cells ring.table)
-          → turned (entry_in m r.entry) ≡ [] → machine_of m cells' ring' ≡ hot_step (machine_of m cells ring)
+          → turned (entry_of m r.entry) ≡ [] → machine_of m cells' ring' ≡ hot_step (machine_of m cells ring)
       unfolding machine_of
       tail_cut rows law =
           let t = tail_parts cells ring.table st r e in
@@ -154,26 +156,26 @@ module _ {K : Type 0} (m : K → List ℕ) (cells : List (Cell (Entry K))) (ring
           append_none (x ∷ xs) = ap (λ l. x ∷ l) (append_none xs)
 
     -- the first row that passes a question
-    module _ (p : model.Entry → Bool) (q : Entry K → Bool) (agree : (e : Entry K) → p (entry_in m e) ≡ q e) (r : Row K) (e : first_by q (rows_in cells ring.table) ≡ Some r) where
+    module _ (p : model.Entry → Bool) (q : Entry K → Bool) (agree : (e : Entry K) → p (entry_of m e) ≡ q e) (r : Row K) (e : first_by q (rows_in cells ring.table) ≡ Some r) where
       pub found_has : ContainsAt (rows_in cells ring.table) r
       found_has = nearest_has (rows_in cells ring.table) q r (nearest q r (rows_in cells ring.table) e) (cells_apart cells ring.table st)
 
       pub found_passes : q r.entry ≡ true
       found_passes = (nearest q r (rows_in cells ring.table) e).passes
 
-      pub found_first : model.first p (machine_of m cells ring).ring ≡ Some (entry_in m r.entry)
+      pub found_first : model.first p (machine_of m cells ring).ring ≡ Some (entry_of m r.entry)
       unfolding machine_of
       found_first = first_in m p q agree r (rows_in cells ring.table) (cells_apart cells ring.table st) e
 
       module _ (cells' : List (Cell (Entry K))) (ring' : Ring) where
         -- it was removed
-        pub found_cut : (f : model.Entry → List model.Entry) → f (entry_in m r.entry) ≡ [] → rows_in cells' ring'.table ≡ without_cell r.cell.0 (rows_in cells ring.table)
+        pub found_cut : (f : model.Entry → List model.Entry) → f (entry_of m r.entry) ≡ [] → rows_in cells' ring'.table ≡ without_cell r.cell.0 (rows_in cells ring.table)
             → (machine_of m cells' ring').ring ≡ model.replaced p f (machine_of m cells ring).ring
         unfolding machine_of
         found_cut f h rows = ap (entries_in m) rows ∙ cut_in m p q agree r (rows_in cells ring.table) (cells_apart cells ring.table st) e f h
 
         -- it took a new entry where it stands
-        pub found_put : (f : model.Entry → List model.Entry) (new : Entry K) → f (entry_in m r.entry) ≡ entry_in m new ∷ []
+        pub found_put : (f : model.Entry → List model.Entry) (new : Entry K) → f (entry_of m r.entry) ≡ entry_of m new ∷ []
             → rows_in cells' ring'.table ≡ replaced r.cell.0 new (rows_in cells ring.table)
             → (machine_of m cells' ring').ring ≡ model.replaced p f (machine_of m cells ring).ring
         unfolding machine_of
@@ -181,7 +183,7 @@ module _ {K : Type 0} (m : K → List ℕ) (cells : List (Cell (Entry K))) (ring
 
         -- it took a new entry and went to the head
         pub found_turned : (new : Entry K) → rows_in cells' ring'.table ≡ without_cell r.cell.0 (rows_in cells ring.table) ++ record { cell = r.cell; entry = new } ∷ []
-            → (machine_of m cells' ring').ring ≡ model.without p (machine_of m cells ring).ring ++ (entry_in m new ∷ [])
+            → (machine_of m cells' ring').ring ≡ model.without p (machine_of m cells ring).ring ++ (entry_of m new ∷ [])
         unfolding machine_of
         found_turned new rows = ap (entries_in m) rows ∙ turn_in m p q agree r (rows_in cells ring.table) (cells_apart cells ring.table st) e new
 

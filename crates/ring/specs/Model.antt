@@ -1,36 +1,32 @@
 -- The list machine's state, read off the cells and the plain numbers.
---   frame_in, entry_in, entries_in   a frame, an entry and the entries of rows, with each key's meaning for the key
---   found_in                       an entry, if there is one
---   machine_of                     the state
---   steps_of                       the steps of the three hands
-use Rattle.std.specs.Prelude.{ℕ, List, map, Some, None, Option}
-use Rattle.keys.specs.declared.FrameNo.{FrameNo}
+--   entries_in   the entries of rows, with each key's meaning for the key
+--   machine_of   the state
+--   Sound        what holds of m frames while hands move: a frame may be out of the list
+--   CanBorrow    what a borrow supposes
+use Rattle.std.specs.Prelude.{ℕ, ◌*◌, ◌≤◌, List, map, length, Option}
 use Rattle.chains.specs.declared.cell.Cell.{Cell}
-use Rattle.rows.specs.declared.Entry.{Entry}
+use Rattle.records.specs.declared.entry.Entry.{Entry}
+use Rattle.records.specs.Reading.{entry_of}
 use Rattle.rows.specs.declared.Row.{Row}
-use Rattle.rows.specs.Rows.{rows_in}
+use Rattle.rows.specs.Rows.{rows_in, Stands}
 use Rattle.machine.specs.Entry as model
 use Rattle.machine.specs.Hands as hands
+use Rattle.machine.specs.Facts.{Mid, Well}
 use Rattle.ring.specs.declared.Ring.{Ring}
-use Rattle.ring.specs.declared.Steps.{Steps}
-
-abbrev pub frame_in : Option FrameNo → Option ℕ
-frame_in None = None
-frame_in (Some f) = Some f.0
-
-abbrev pub entry_in : {K : Type 0} → (K → List ℕ) → Entry K → model.Entry
-entry_in meaning e = record
-    { key = meaning e.key; hot = e.hot; frame = frame_in e.frame; test = e.test; bit = e.bit; loans = e.loans; altered = e.altered }
 
 abbrev pub entries_in : {K : Type 0} → (K → List ℕ) → List (Row K) → List model.Entry
-entries_in meaning rows = map (λ r. entry_in meaning r.entry) rows
-
-abbrev pub found_in : {K : Type 0} → (K → List ℕ) → Option (Entry K) → Option model.Entry
-found_in meaning None = None
-found_in meaning (Some e) = Some (entry_in meaning e)
+entries_in meaning rows = map (λ r. entry_of meaning r.entry) rows
 
 unfoldable pub machine_of : {K : Type 0} → (K → List ℕ) → List (Cell (Entry K)) → Ring → hands.Machine
 machine_of meaning cells ring = record { ring = entries_in meaning (rows_in cells ring.table); cold = ring.cold; used = ring.used }
 
-abbrev pub steps_of : Steps → hands.Steps
-steps_of n = hands.steps n.cold n.hot n.test
+pub record Sound {K : Type 0} (meaning : K → List ℕ) (gap : Option ℕ) (m : ℕ) (cells : List (Cell (Entry K))) (ring : Ring) : Type 0 where
+  pub frames : m ≤ 4096
+  pub stands : Stands cells ring.table
+  pub facts : Mid m gap (machine_of meaning cells ring)
+
+pub record CanBorrow {K : Type 0} (meaning : K → List ℕ) (m : ℕ) (cells : List (Cell (Entry K))) (ring : Ring) : Type 0 where
+  pub frames : m ≤ 4096
+  pub memory : 2 * m ≤ length cells
+  pub stands : Stands cells ring.table
+  pub facts : Well m (machine_of meaning cells ring)

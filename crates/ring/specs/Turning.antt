@@ -11,9 +11,8 @@ use Rattle.machine.specs.Borrow as rules
 use Rattle.ring.specs.declared.hands.Victim.{Victim}
 use Rattle.ring.specs.declared.hands.Choice.{Choice}
 use Rattle.ring.specs.declared.hands.Choice.TheVariants.{NoCandidate, Promoted, Retested, Evicted}
-use Rattle.ring.specs.declared.runs.Freed.{Freed}
-use Rattle.ring.specs.declared.runs.Room.{Room}
-use Rattle.ring.specs.Model.{steps_of}
+use Rattle.records.specs.declared.answers.Room.{Room}
+use Rattle.records.specs.Reading.{steps_of}
 
 -- the victim is the entry e, as it stood before it left frame f
 pub record Sent {K : Type 0} (meaning : K → List ℕ) (e : model.Entry) (f : FrameNo) (v : Victim K) : Type 0 where
@@ -48,7 +47,7 @@ Stepped meaning m s Promoted t = Promotes m s t
 Stepped meaning m s Retested t = Retests s t
 Stepped meaning m s (Evicted f v) t = Evicts meaning s f v t
 
-pub record Frees {K : Type 0} (meaning : K → List ℕ) (m : ℕ) (s : Machine) (r : Freed K) (t : Machine) : Type 0 where
+pub record Frees {K : Type 0} (meaning : K → List ℕ) (m : ℕ) (s : Machine) (r : Room (Victim K)) (t : Machine) : Type 0 where
   pub victim : model.Entry
   pub run : ColdRun m s (steps_of r.steps) victim t
   pub sent : Sent meaning victim r.frame r.victim
@@ -60,7 +59,7 @@ Gone meaning f None (Some v) = ⊥
 Gone meaning f (Some e) None = ⊥
 Gone meaning f (Some e) (Some v) = Sent meaning e f v
 
-pub record Roomed {K : Type 0} (meaning : K → List ℕ) (m : ℕ) (s : Machine) (r : Room K) (t : Machine) : Type 0 where
+pub record Roomed {K : Type 0} (meaning : K → List ℕ) (m : ℕ) (s : Machine) (r : Room (Option (Victim K))) (t : Machine) : Type 0 where
   pub victim : Option model.Entry
   pub room : rules.Room m s r.frame.0 victim (steps_of r.steps) t
   pub gone : Gone meaning r.frame victim r.victim

@@ -16,20 +16,22 @@ ghost use Rattle.std.specs.Prelude.{◌≡◌, ◌^◌, ◌<◌, ◌≤◌, map,
 ghost use Rattle.rows.specs.Rows.{Stands};
 ghost use Rattle.machine.specs.Hands.{opened};
 ghost use Rattle.machine.specs.Facts.{Well};
-ghost use Rattle.ring.specs.Model.{entry_in, machine_of};
+ghost use Rattle.records.specs.Reading.{entry_of};
+ghost use Rattle.ring.specs.Model.{machine_of};
 
-pub use calls::{
-    Granted, Outcome, Refusal, Report, borrow, find, give_back, loans_at, mark_page, occupant,
-};
 use chains::Cell;
-pub use hands::{Choice, Victim, cold_step, hot_step, test_step};
+pub use hands::{Choice, Victim, by_key};
 use keys::Key;
-pub use over::{RingOver, borrow_delivered, borrow_over, borrow_page};
-use rows::{Entry, Table};
-pub use runs::{Freed, Room, cold_run, hot_run, make_room, test_run};
+pub use over::RingOver;
+use records::Entry;
+use rows::Table;
 use std::alloc::{AllocError, Global};
 
 /// A ring's plain numbers: those of its rows, the cold allocation c, and the number u of frames in use.
+// stays: that the cells and the numbers belong together, `Stands`, is a clause of each call, since the cells are lent to each
+// (`Chains` says what was tried). A struct over a lent slice with a model was tried too, on a small case: its own methods
+// prove, but whoever lends the cells learns nothing of them afterwards, and a pool has to.
+// stays: m is an argument. A call holds for every m for which the facts do; a ring that kept one number would ask more.
 #[derive(Clone, Copy)]
 pub struct Ring {
     table: Table,
@@ -37,53 +39,46 @@ pub struct Ring {
     used: u32,
 }
 
-/// The steps of the three hands.
-#[derive(Clone, Copy)]
-pub struct Steps {
-    pub cold: u32,
-    pub hot: u32,
-    pub test: u32,
-}
-
-/// Opens a ring of m frames over the cells: all cells are emptied.
-pub fn open<K: Key + Copy>(cells: &mut [Cell<Entry<K>>], m: u32) -> Ring
-    requires frames { 2 ≤ m }
-    requires memory { length cells.old < 2 ^ 32 }
-    ensures stands { Stands cells.new result.table }
-    ensures state { machine_of K.Key.meaning cells.new result ≡ opened m }
-    ensures facts { Well m (machine_of K.Key.meaning cells.new result) }
-{
-    let table = rows::open(cells);
-    Ring {
-        table,
-        cold: m - 1,
-        used: 0,
+impl Ring {
+    /// Opens a ring of m frames over the cells: all cells are emptied.
+    pub fn open<K: Key + Copy>(cells: &mut [Cell<Entry<K>>], m: u32) -> Ring
+        requires frames { 2 ≤ m }
+        requires memory { length cells.old < 2 ^ 32 }
+        ensures stands { Stands cells.new result.table }
+        ensures state { machine_of K.Key.meaning cells.new result ≡ opened m }
+        ensures facts { Well m (machine_of K.Key.meaning cells.new result) }
+    {
+        let table = Table::open(cells);
+        Ring {
+            table,
+            cold: m - 1,
+            used: 0,
+        }
     }
-}
 
-/// The cold allocation.
-pub fn cold_allocation(ring: &Ring) -> u32
-    ensures { result ≡ ring.now.cold }
-{
-    ring.cold
-}
+    /// The cold allocation.
+    pub fn cold_allocation(&self) -> u32
+        ensures { result ≡ self.now.cold }
+    {
+        self.cold
+    }
 
-/// The number of frames in use.
-pub fn frames_used(ring: &Ring) -> u32
-    ensures { result ≡ ring.now.used }
-{
-    ring.used
-}
+    /// The number of frames in use.
+    pub fn frames_used(&self) -> u32
+        ensures { result ≡ self.now.used }
+    {
+        self.used
+    }
 
-/// All entries, from the tail to the head, in a vector of their own: for whoever wants to look at the whole ring.
-pub fn list<K: Key + Copy>(
-    heap: Global,
-    cells: &[Cell<Entry<K>>],
-    ring: &Ring,
-) -> Result<Vec<Entry<K>>, AllocError>
-    requires { Stands cells.now ring.now.table }
-    ensures { IfOk result (λ v. map (entry_in K.Key.meaning) v.items ≡ (machine_of K.Key.meaning cells.now ring.now).ring) }
-{
-    let all = rows::list(heap, cells, &ring.table)?;
-    Ok(all)
+    /// All entries, from the tail to the head, in a vector of their own: for whoever wants to look at the whole ring.
+    pub fn list<K: Key + Copy>(
+        &self,
+        heap: Global,
+        cells: &[Cell<Entry<K>>],
+    ) -> Result<Vec<Entry<K>>, AllocError>
+        requires { Stands cells.now self.now.table }
+        ensures { IfOk result (λ v. map (entry_of K.Key.meaning) v.items ≡ (machine_of K.Key.meaning cells.now self.now).ring) }
+    {
+        self.table.list(heap, cells)
+    }
 }

@@ -1,22 +1,25 @@
 //! A struct over the given slice of cells, generic in the key, that passes the slice on: a pool's call makes one for its
-//! own time. Each method says that the slice is still the one that was given (`name`), so that the lender knows its cells
+//! own time. Each method says that the slice is still the one that was given (`same`), so that the lender knows its cells
 //! afterwards.
 
-ghost use Rattle.std.specs.Prelude.{◌≡◌, ℕ, ◌*◌, ◌≤◌, [], ◌∷◌, length, nat_lt};
+ghost use Rattle.std.specs.Prelude.{◌≡◌, ℕ, length, nat_lt};
 ghost use Rattle.rows.specs.Rows.{Stands};
 ghost use Rattle.machine.specs.Entry.{first, named};
 ghost use Rattle.machine.specs.Borrow as rules;
 ghost use Rattle.machine.specs.Facts.{Well};
-ghost use Rattle.ring.specs.Model.{machine_of, found_in};
+ghost use Rattle.records.specs.Reading.{found_of};
+ghost use Rattle.ring.specs.Model.{machine_of, CanBorrow};
 ghost use Rattle.ring.specs.Answering.{answer_of, Written};
 
-use crate::calls::{Granted, Refusal};
-use crate::{Ring, calls};
+use crate::Ring;
+use crate::hands::Victim;
 use chains::Cell;
-use keys::{DeliveryKey, FrameNo, Key, PageNo};
-use rows::Entry;
+use keys::{FrameNo, Key};
+use records::{Entry, Granted, Refusal};
 
 /// A ring of m frames with its cells at hand.
+// stays: each method says again what Ring's says. A struct over a lent slice is a form that the project wants, and the slice's
+// owner learns of it by these clauses alone.
 #[derive(Drop)]
 pub struct RingOver<'a, K> {
     pub cells: &'a mut [Cell<Entry<K>>],
@@ -33,11 +36,8 @@ impl<'a, K: Key + Copy> RingOver<'a, K> {
     }
 
     /// Borrows a key.
-    pub fn borrow(&mut self, key: K) -> Result<Granted<K>, Refusal>
-        requires frames { self.old.m ≤ 4096 }
-        requires memory { 2 * self.old.m ≤ length self.old.cells.now }
-        requires stands { Stands self.old.cells.now self.old.ring.table }
-        requires facts { Well self.old.m (machine_of K.Key.meaning self.old.cells.now self.old.ring) }
+    pub fn borrow(&mut self, key: K) -> Result<Granted<Victim<K>>, Refusal>
+        requires { CanBorrow K.Key.meaning self.old.m self.old.cells.now self.old.ring }
         ensures stands { Stands self.new.cells.now self.new.ring.table }
         ensures borrowed { rules.Borrow self.old.m (K.Key.meaning key) (machine_of K.Key.meaning self.old.cells.now self.old.ring) (answer_of K.Key.meaning result) (machine_of K.Key.meaning self.new.cells.now self.new.ring) }
         ensures written { Written (machine_of K.Key.meaning self.old.cells.now self.old.ring) result }
@@ -46,11 +46,7 @@ impl<'a, K: Key + Copy> RingOver<'a, K> {
         ensures memory { length self.new.cells.now ≡ length self.old.cells.now }
         ensures same { self.new.cells.ghost_name ≡ self.old.cells.ghost_name }
     {
-        let m = self.m;
-        let mut ring = self.ring;
-        let answer = calls::borrow(self.cells, &mut ring, m, key);
-        self.ring = ring;
-        answer
+        self.ring.borrow(self.cells, self.m, key)
     }
 
     /// One loan less at a frame; the answer is whether it carried one.
@@ -64,10 +60,7 @@ impl<'a, K: Key + Copy> RingOver<'a, K> {
         ensures memory { length self.new.cells.now ≡ length self.old.cells.now }
         ensures same { self.new.cells.ghost_name ≡ self.old.cells.ghost_name }
     {
-        let mut ring = self.ring;
-        let carried = calls::give_back(self.cells, &mut ring, frame);
-        self.ring = ring;
-        carried
+        self.ring.give_back(self.cells, frame)
     }
 
     /// Sets or clears the altered mark of the page in a frame.
@@ -80,9 +73,7 @@ impl<'a, K: Key + Copy> RingOver<'a, K> {
         ensures memory { length self.new.cells.now ≡ length self.old.cells.now }
         ensures same { self.new.cells.ghost_name ≡ self.old.cells.ghost_name }
     {
-        let mut ring = self.ring;
-        calls::mark_page(self.cells, &mut ring, frame, altered);
-        self.ring = ring;
+        self.ring.mark_page(self.cells, frame, altered);
     }
 
     /// The loans that a frame carries.
@@ -90,87 +81,48 @@ impl<'a, K: Key + Copy> RingOver<'a, K> {
         requires { Stands self.now.cells.now self.now.ring.table }
         ensures { result ≡ rules.carries frame.0 (machine_of K.Key.meaning self.now.cells.now self.now.ring) }
     {
-        calls::loans_at(self.cells, &self.ring, frame)
+        self.ring.loans_at(self.cells, frame)
     }
 
     /// The entry whose page lies in a frame, in constant time.
     pub fn occupant(&self, frame: FrameNo) -> Option<Entry<K>>
         requires { Stands self.now.cells.now self.now.ring.table }
-        ensures { found_in K.Key.meaning result ≡ rules.occupant frame.0 (machine_of K.Key.meaning self.now.cells.now self.now.ring) }
+        ensures { found_of K.Key.meaning result ≡ rules.occupant frame.0 (machine_of K.Key.meaning self.now.cells.now self.now.ring) }
     {
-        calls::occupant(self.cells, &self.ring, frame)
+        self.ring.occupant(self.cells, frame)
     }
 
     /// The entry of a key: what a search of the whole ring from the tail finds.
     pub fn find(&self, key: &K) -> Option<Entry<K>>
         requires { Stands self.now.cells.now self.now.ring.table }
-        ensures { found_in K.Key.meaning result ≡ first (named (K.Key.meaning key.now)) (machine_of K.Key.meaning self.now.cells.now self.now.ring).ring }
+        ensures { found_of K.Key.meaning result ≡ first (named (K.Key.meaning key.now)) (machine_of K.Key.meaning self.now.cells.now self.now.ring).ring }
     {
-        calls::find(self.cells, &self.ring, key)
+        self.ring.find(self.cells, key)
     }
 }
 
-/// A borrow over a lent slice: the struct is made for the time of the call, and the lender knows its cells and the
-/// numbers after it.
-pub fn borrow_over<K: Key + Copy>(
-    cells: &mut [Cell<Entry<K>>],
-    ring: &mut Ring,
-    m: u32,
-    key: K,
-) -> Result<Granted<K>, Refusal>
-    requires frames { m ≤ 4096 }
-    requires memory { 2 * m ≤ length cells.old }
-    requires stands { Stands cells.old ring.old.table }
-    requires facts { Well m (machine_of K.Key.meaning cells.old ring.old) }
-    ensures stands { Stands cells.new ring.new.table }
-    ensures borrowed { rules.Borrow m (K.Key.meaning key) (machine_of K.Key.meaning cells.old ring.old) (answer_of K.Key.meaning result) (machine_of K.Key.meaning cells.new ring.new) }
-    ensures written { Written (machine_of K.Key.meaning cells.old ring.old) result }
-    ensures facts { Well m (machine_of K.Key.meaning cells.new ring.new) }
-{
-    let mut over = RingOver {
-        cells,
-        ring: *ring,
-        m,
-    };
-    let answer = over.borrow(key);
-    *ring = over.numbers();
-    answer
-}
-
-/// A borrow of a page of a store with one numbering.
-pub fn borrow_page(
-    cells: &mut [Cell<Entry<PageNo>>],
-    ring: &mut Ring,
-    m: u32,
-    key: PageNo,
-) -> Result<Granted<PageNo>, Refusal>
-    requires frames { m ≤ 4096 }
-    requires memory { 2 * m ≤ length cells.old }
-    requires stands { Stands cells.old ring.old.table }
-    requires facts { Well m (machine_of (λ k. k.0 ∷ []) cells.old ring.old) }
-    ensures stands { Stands cells.new ring.new.table }
-    ensures borrowed { rules.Borrow m (key.0 ∷ []) (machine_of (λ k. k.0 ∷ []) cells.old ring.old) (answer_of (λ k. k.0 ∷ []) result) (machine_of (λ k. k.0 ∷ []) cells.new ring.new) }
-    ensures written { Written (machine_of (λ k. k.0 ∷ []) cells.old ring.old) result }
-    ensures facts { Well m (machine_of (λ k. k.0 ∷ []) cells.new ring.new) }
-{
-    borrow_over(cells, ring, m, key)
-}
-
-/// A borrow of a page of a delivery.
-pub fn borrow_delivered(
-    cells: &mut [Cell<Entry<DeliveryKey>>],
-    ring: &mut Ring,
-    m: u32,
-    key: DeliveryKey,
-) -> Result<Granted<DeliveryKey>, Refusal>
-    requires frames { m ≤ 4096 }
-    requires memory { 2 * m ≤ length cells.old }
-    requires stands { Stands cells.old ring.old.table }
-    requires facts { Well m (machine_of (λ k. k.delivery.0 ∷ k.page.0 ∷ []) cells.old ring.old) }
-    ensures stands { Stands cells.new ring.new.table }
-    ensures borrowed { rules.Borrow m (key.delivery.0 ∷ key.page.0 ∷ []) (machine_of (λ k. k.delivery.0 ∷ k.page.0 ∷ []) cells.old ring.old) (answer_of (λ k. k.delivery.0 ∷ k.page.0 ∷ []) result) (machine_of (λ k. k.delivery.0 ∷ k.page.0 ∷ []) cells.new ring.new) }
-    ensures written { Written (machine_of (λ k. k.delivery.0 ∷ k.page.0 ∷ []) cells.old ring.old) result }
-    ensures facts { Well m (machine_of (λ k. k.delivery.0 ∷ k.page.0 ∷ []) cells.new ring.new) }
-{
-    borrow_over(cells, ring, m, key)
+impl Ring {
+    /// A borrow over a lent slice: the struct is made for the time of the call, and the lender knows its cells and the
+    /// numbers after it.
+    pub fn borrow_over<K: Key + Copy>(
+        &mut self,
+        cells: &mut [Cell<Entry<K>>],
+        m: u32,
+        key: K,
+    ) -> Result<Granted<Victim<K>>, Refusal>
+        requires { CanBorrow K.Key.meaning m cells.old self.old }
+        ensures stands { Stands cells.new self.new.table }
+        ensures borrowed { rules.Borrow m (K.Key.meaning key) (machine_of K.Key.meaning cells.old self.old) (answer_of K.Key.meaning result) (machine_of K.Key.meaning cells.new self.new) }
+        ensures written { Written (machine_of K.Key.meaning cells.old self.old) result }
+        ensures facts { Well m (machine_of K.Key.meaning cells.new self.new) }
+    {
+        let mut over = RingOver {
+            cells,
+            ring: *self,
+            m,
+        };
+        let answer = over.borrow(key);
+        *self = over.numbers();
+        answer
+    }
 }

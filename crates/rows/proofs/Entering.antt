@@ -1,5 +1,5 @@
 -- A new row at the head, in an unused cell.
-use Rattle.std.proofs.Common.{◌≡◌, ℕ, ◌+◌, ◌<◌, ◌≤◌, Bool, true, false, cond, eqb, List, [], ◌∷◌, ◌++◌, length, is_some as option_is_some, Some, None, Option, sym, refl, ap, ◌∙◌, subst, arith}
+use Rattle.std.proofs.Common.{◌≡◌, ℕ, ◌^◌, ◌<◌, Bool, true, false, cond, eqb, List, [], ◌∷◌, ◌++◌, length, is_some as option_is_some, Some, None, Option, sym, refl, ap, ◌∙◌, subst, arith}
 use Rattle.keys.specs.declared.FrameNo.{FrameNo}
 use Rattle.std.specs.List.{ContainsAt, AllByRecursion}
 use Rattle.std.proofs.lemmas.List.{map-append, length_push}
@@ -11,15 +11,19 @@ use Rattle.keys.specs.declared.CellNo.{CellNo}
 use Rattle.chains.specs.declared.cell.Chain.TheVariants.{Ring, Cold, Test, Free}
 use Rattle.chains.proofs.Rounds.{without_none}
 use Rattle.chains.proofs.Room.{all_without, misses_without}
-use Rattle.chains.specs.Shape.{Shape, shape_of, head_of, name_of}
+use Rattle.chains.specs.Shape.{Shape, Intact, shape_of, head_of, name_of}
 use Rattle.chains.proofs.Shapes.{order_apart, order_inside, size_is}
-use Rattle.rows.specs.Rows.{cold_resident, remembered, idle, cells_of, cells_by, number, first_by, lies_in, in_frame, Slot, Unnamed, Fits, noted_slot, Linked, Stands, rows_in, joined}
-use Rattle.rows.specs.declared.Entry.{Entry}
+use Rattle.records.specs.Questions.{cold_resident, remembered, idle, lies_in, in_frame}
+use Rattle.rows.specs.Rows.{counted, plus, SumsFit, cells_of, cells_by, first_by, Slot, Unnamed, Fits, Placed, noted, refiled, noted_slot, Linked, Stands, rows_in, joined}
+use Rattle.records.specs.declared.entry.Entry.{Entry}
+use Rattle.chains.specs.declared.Chains.{Chains}
+use Rattle.rows.specs.declared.Counts.{Counts}
 use Rattle.rows.specs.declared.Row.{Row}
 use Rattle.rows.specs.declared.Table.{Table}
 use Rattle.rows.proofs.Splits.{by_turned, number_append, number_some, misses_by, none_left}
-use Rattle.rows.proofs.Links.{Holds, others_hold, still_vacant}
-use Rattle.rows.proofs.Stand.{intact, linked}
+use Rattle.rows.proofs.Links.{at_most_one, Holds, others_hold, still_vacant}
+use Rattle.rows.proofs.Filing.{unused, comes}
+use Rattle.rows.proofs.Stand.{Rows, intact, linked, stands_on}
 
 -- another frame's slot is written: a row's slot is as it was
 slot_other : (slot : ℕ → ℕ) (i f c : ℕ) (o : Option FrameNo) → in_frame f o ≡ false → Slot slot c o → Slot (λ j. cond (eqb j f) i (slot j)) c o
@@ -56,7 +60,7 @@ module _ {K : Type 0} where
   slots_kept slot i n (Some f) rows u h = slots_same slot i f.0 rows u.1 h
 
   -- the first unused cell is i
-  module _ (hots past idles : ℕ) (s : Shape (Entry K)) (rows : List (Row K)) (k : Linked hots past idles s rows) (i : CellNo) (rest : List ℕ)
+  module _ (counts : Counts) (s : Shape (Entry K)) (rows : List (Row K)) (k : Linked counts s rows) (i : CellNo) (rest : List ℕ)
       (first : s.order Free ≡ i.0 ∷ rest) (apart : Apart (s.order Free)) where
     pub empty_here : s.entry i.0 ≡ None
     empty_here = (subst (AllByRecursion (λ j. s.entry j ≡ None)) first k.vacant).0
@@ -67,9 +71,8 @@ module _ {K : Type 0} where
     alone : Misses i.0 rest
     alone = (subst Apart first apart).0
 
-    pub joined_linked : (new : Entry K) (h p q n : ℕ) → Unnamed n rows new.frame → h + 0 ≡ hots + cond new.hot 1 0 → p + 0 ≡ past + cond (remembered new) 1 0 → q + 0 ≡ idles + cond (idle new) 1 0
-        → Linked h p q (joined i.0 new s) (rows ++ record { cell = i; entry = new } ∷ [])
-    joined_linked new h p q n u he pe ie =
+    pub joined_linked : (new : Entry K) (n : ℕ) → Unnamed n rows new.frame → Linked (plus counts (counted new)) (joined i.0 new s) (rows ++ record { cell = i; entry = new } ∷ [])
+    joined_linked new n u =
         let r : Row K = record { cell = i; entry = new } in
         let z = none_left i.0 rows not_used in
         let v : without i.0 (s.order Free) ≡ rest = ap (without i.0) first ∙ cond-true (eqb i.0 i.0) (without i.0 rest) (i.0 ∷ without i.0 rest) (eq-eqb i.0 i.0 refl) ∙ without_none i.0 rest alone in
@@ -106,38 +109,50 @@ module _ {K : Type 0} (cells : List (Cell (Entry K))) (b : Table) (st : Stands c
   pub free_there : (o : Option CellNo) → name_of o ≡ head_of ((shape_of cells b.chains).order Free) → option_is_some o ≡ true
   free_there o e = is_some o ((shape_of cells b.chains).order Free) some_free e
 
-  pub count_fits : (p : Entry K → Bool) (n : ℕ) → n ≡ number p (rows_in cells b) → n + 1 ≤ length cells
-  count_fits p n e = omega (arith, number_some p (rows_in cells b))
+  -- another entry can be counted
+  pub room_for : (new : Entry K) → length cells < 2 ^ 64 → SumsFit b.counts (counted new)
+  room_for new h =
+      let k = linked cells b st in
+      record {
+        hots = omega (arith, number_some (λ e. e.hot) (rows_in cells b), k.warm, at_most_one new.hot);
+        past = omega (arith, number_some remembered (rows_in cells b), k.left, at_most_one (remembered new));
+        idles = omega (arith, number_some idle (rows_in cells b), k.unlents, at_most_one (idle new));
+      }
 
   module _ (i : CellNo) (e : name_of (Some i) ≡ head_of ((shape_of cells b.chains).order Free)) where
     pub free_parts : (rest : List ℕ) × ((shape_of cells b.chains).order Free ≡ i.0 ∷ rest)
     free_parts = head_is ((shape_of cells b.chains).order Free) i e
 
-    pub free_has : ContainsAt ((shape_of cells b.chains).order Free) i.0
+    free_has : ContainsAt ((shape_of cells b.chains).order Free) i.0
     free_has = subst (λ o. ContainsAt o i.0) (sym free_parts.1) (0, omega arith, λ d. refl)
 
     pub free_inside : i.0 < (shape_of cells b.chains).size
     free_inside = all-has (λ j. j < (shape_of cells b.chains).size) ((shape_of cells b.chains).order Free) i.0 (order_inside cells b.chains (intact cells b st) Free) free_has
 
     free_misses : Misses i.0 (cells_of (rows_in cells b))
-    free_misses = not_used b.hots b.past b.idles (shape_of cells b.chains) (rows_in cells b) (linked cells b st) i free_parts.0 free_parts.1 (order_apart cells b.chains (intact cells b st) Free)
+    free_misses = not_used b.counts (shape_of cells b.chains) (rows_in cells b) (linked cells b st) i free_parts.0 free_parts.1 (order_apart cells b.chains (intact cells b st) Free)
 
-    pub free_ring : Misses i.0 ((shape_of cells b.chains).order Ring)
+    free_ring : Misses i.0 ((shape_of cells b.chains).order Ring)
     free_ring = subst (Misses i.0) (sym (linked cells b st).ring) free_misses
 
-    pub free_cold : Misses i.0 ((shape_of cells b.chains).order Cold)
+    free_cold : Misses i.0 ((shape_of cells b.chains).order Cold)
     free_cold = subst (Misses i.0) (sym (linked cells b st).cold) (misses_by cold_resident i.0 (rows_in cells b) free_misses)
 
-    pub free_test : Misses i.0 ((shape_of cells b.chains).order Test)
+    free_test : Misses i.0 ((shape_of cells b.chains).order Test)
     free_test = subst (Misses i.0) (sym (linked cells b st).test) (misses_by (λ e. e.test) i.0 (rows_in cells b) free_misses)
 
-    pub joined_stands : (cells' : List (Cell (Entry K))) (b' : Table) (new : Entry K) → Unnamed (length cells) (rows_in cells b) new.frame
-        → shape_of cells' b'.chains ≡ joined i.0 new (shape_of cells b.chains)
-        → b'.hots + 0 ≡ b.hots + cond new.hot 1 0 → b'.past + 0 ≡ b.past + cond (remembered new) 1 0 → b'.idles + 0 ≡ b.idles + cond (idle new) 1 0
-        → Linked b'.hots b'.past b'.idles (shape_of cells' b'.chains) (rows_in cells b ++ record { cell = i; entry = new } ∷ [])
-    joined_stands cells' b' new u q he pe ie =
-        subst (λ s. Linked b'.hots b'.past b'.idles s (rows_in cells b ++ record { cell = i; entry = new } ∷ [])) (sym q)
-        (joined_linked b.hots b.past b.idles (shape_of cells b.chains) (rows_in cells b) (linked cells b st) i free_parts.0 free_parts.1 (order_apart cells b.chains (intact cells b st) Free) new b'.hots b'.past b'.idles (length cells) u he pe ie)
+    pub free_placed : Placed i.0 None (shape_of cells b.chains)
+    free_placed = unused (shape_of cells b.chains) i.0 free_has free_ring free_cold free_test
+
+    pub free_comes : (new : Entry K) → refiled i.0 (Some new) (noted i.0 new.frame (shape_of cells b.chains)) ≡ joined i.0 new (shape_of cells b.chains)
+    free_comes = comes (shape_of cells b.chains) i.0 free_has free_ring free_cold free_test
+
+    pub joined_stands : (cells' : List (Cell (Entry K))) (chains : Chains) (counts : Counts) → Intact cells' chains → (new : Entry K) → Unnamed (length cells) (rows_in cells b) new.frame
+        → shape_of cells' chains ≡ joined i.0 new (shape_of cells b.chains) → counts ≡ plus b.counts (counted new)
+        → Rows cells' (record { chains = chains; counts = counts }) (rows_in cells b ++ record { cell = i; entry = new } ∷ [])
+    joined_stands cells' chains counts w new u e c =
+        stands_on cells' (record { chains = chains; counts = counts }) _ w
+        (rw (e, c) (joined_linked b.counts (shape_of cells b.chains) (rows_in cells b) (linked cells b st) i free_parts.0 free_parts.1 (order_apart cells b.chains (intact cells b st) Free) new (length cells) u))
 
 -- the frame of an entry that comes in has a slot
 pub fits_slot : {K : Type 0} (n : ℕ) (rows : List (Row K)) (o : Option FrameNo) → Unnamed n rows o → Fits n o

@@ -2,6 +2,7 @@
 use Rattle.std.proofs.Common.{◌≡◌, ℕ, ◌<◌, Bool, true, false, cond, ◌≢◌, ◌⊎◌, List, [], ◌∷◌, ◌++◌, Some, None, Option, sym, refl, ap, ◌∙◌, subst, inl, inr, arith}
 use Rattle.keys.specs.declared.FrameNo.{FrameNo}
 use Rattle.keys.specs.declared.CellNo.{CellNo}
+use Rattle.std.specs.Bool.{then_some}
 use Rattle.std.specs.List.{ContainsAt, AllByRecursion}
 use Rattle.std.proofs.lemmas.List.{length-append, length-map}
 use Rattle.std.proofs.ByRecursion.{all-has, all_has_itself, All-weaker, All-append, has_append_right}
@@ -12,8 +13,9 @@ use Rattle.chains.specs.declared.cell.Chain.TheVariants.{Ring, Free}
 use Rattle.chains.specs.Shape.{shape_of}
 use Rattle.chains.proofs.Room.{pigeon}
 use Rattle.chains.proofs.Shapes.{order_apart, order_inside, entry_inside}
-use Rattle.rows.specs.Rows.{cells_of, first_by, lies_in, in_frame, Slot, rows_in, Stands}
-use Rattle.rows.specs.declared.Entry.{Entry}
+use Rattle.records.specs.Questions.{lies_in, in_frame}
+use Rattle.rows.specs.Rows.{cells_of, first_by, Slot, rows_in, Stands}
+use Rattle.records.specs.declared.entry.Entry.{Entry}
 use Rattle.rows.specs.declared.Row.{Row}
 use Rattle.rows.specs.declared.Table.{Table}
 use Rattle.rows.proofs.Links.{not_vacant}
@@ -132,3 +134,9 @@ module _ {K : Type 0} (cells : List (Cell (Entry K))) (b : Table) (st : Stands c
             let w : y.entry ≡ e = cc in
             let v : y.cell.0 ≡ c.0 = a ∙ sym ci in
             λ t. Some (record { cell = record { 0 = v t }; entry = w t })
+
+  -- the entry of the slot's cell, if it is of this frame
+  pub frame_is : (f : ℕ) (c : CellNo) → c.0 ≡ (shape_of cells b.chains).slot f → (e : Entry K) → (shape_of cells b.chains).entry c.0 ≡ Some e → (q : Bool) → lies_in f e ≡ q
+      → first_by (lies_in f) (rows_in cells b) ≡ then_some q (record { cell = c; entry = e })
+  frame_is f c at e h true l = frame_found f c.0 at c e refl h l
+  frame_is f c at e h false l = frame_other f c.0 at e h l

@@ -5,4 +5,4 @@ pub mod Walks
 pub mod Opening
 pub mod Entering
 pub mod Frames
-pub mod Listed
+pub mod Filing

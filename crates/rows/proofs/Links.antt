@@ -1,5 +1,5 @@
 -- The shape of the chains holds the rows: before and after a row is turned or taken out.
-use Rattle.std.proofs.Common.{◌≡◌, ℕ, ◌+◌, ◌<◌, Bool, true, false, cond, eqb, ◌≢◌, List, [], ◌∷◌, ◌++◌, Some, None, MatchBool, Option, sym, refl, ap, ◌∙◌, subst, arith}
+use Rattle.std.proofs.Common.{◌≡◌, ℕ, ◌^◌, ◌<◌, ◌≤◌, Bool, true, false, cond, eqb, ◌≢◌, List, [], ◌∷◌, ◌++◌, Some, None, MatchBool, Option, sym, refl, ap, ◌∙◌, subst, arith}
 use Rattle.keys.specs.declared.FrameNo.{FrameNo}
 use Rattle.std.specs.List.{ContainsAt, AllByRecursion}
 use Rattle.std.proofs.lemmas.List.{append-nil, map-append, length_push}
@@ -8,10 +8,12 @@ use Rattle.std.proofs.lemmas.Bool.{ne_eqb, eq-eqb, cond-true, cond-false, cond_b
 use Rattle.chains.specs.Orders.{Misses, without}
 use Rattle.chains.specs.declared.cell.Chain.TheVariants.{Cold, Test, Free}
 use Rattle.chains.specs.Shape.{Shape}
-use Rattle.rows.specs.Rows.{cold_resident, remembered, idle, cells_of, without_cell, gather, join_row, Linked, Members, Slot, Kept, relinked, rewritten, replaced, cut_out}
-use Rattle.rows.specs.declared.Entry.{Entry}
+use Rattle.records.specs.Questions.{cold_resident, remembered, idle}
+use Rattle.rows.specs.Rows.{counted, plus, minus, SumsFit, NoneMore, cells_of, without_cell, gather, join_row, Linked, Members, Slot, Kept, relinked, rewritten, replaced, cut_out}
+use Rattle.records.specs.declared.entry.Entry.{Entry}
+use Rattle.rows.specs.declared.Counts.{Counts}
 use Rattle.rows.specs.declared.Row.{Row}
-use Rattle.rows.proofs.Splits.{cells_without, by_without, by_turned, number_append, Within, cells_replaced, length_replaced}
+use Rattle.rows.proofs.Splits.{number_some, cells_without, by_without, by_turned, number_append, Within, cells_replaced, length_replaced}
 
 pub as_member : (o : List ℕ) (i : ℕ) (b b' : Bool) → b' ≡ b → MatchBool b (ContainsAt o i) (Misses i o) → MatchBool b' (ContainsAt o i) (Misses i o)
 as_member o i b b' e h = subst (λ x. MatchBool x (ContainsAt o i) (Misses i o)) (sym e) h
@@ -20,6 +22,10 @@ as_member o i b b' e h = subst (λ x. MatchBool x (ContainsAt o i) (Misses i o))
 pub slot_kept : (slot : ℕ → ℕ) (i : ℕ) (old new : Option FrameNo) → Kept old new → Slot slot i old → Slot slot i new
 slot_kept slot i old None k h = tt
 slot_kept slot i old (Some f) k h = subst (Slot slot i) k h
+
+pub at_most_one : (b : Bool) → cond b 1 0 ≤ 1
+at_most_one true = omega arith
+at_most_one false = omega arith
 
 module _ {K : Type 0} where
   abbrev pub Holds : (ℕ → Option (Entry K)) → List (Row K) → Type 0
@@ -81,7 +87,7 @@ module _ {K : Type 0} where
   still_vacant f i e [] m a = tt
   still_vacant f i e (j ∷ js) m a = (cond-false (eqb j i) e (f j) (ne_eqb j i m.0) ∙ a.0, still_vacant f i e js m.1 a.1)
 
-  module _ (hots past idles : ℕ) (s : Shape (Entry K)) (rows : List (Row K)) (k : Linked hots past idles s rows) (r : Row K) (w : Within rows r) (at : s.entry r.cell.0 ≡ Some r.entry) (slot : Slot s.slot r.cell.0 r.entry.frame) where
+  module _ (counts : Counts) (s : Shape (Entry K)) (rows : List (Row K)) (k : Linked counts s rows) (r : Row K) (w : Within rows r) (at : s.entry r.cell.0 ≡ Some r.entry) (slot : Slot s.slot r.cell.0 r.entry.frame) where
     away : Misses r.cell.0 (s.order Free)
     away = not_vacant s.entry r.cell.0 r.entry at (s.order Free) k.vacant
 
@@ -94,11 +100,27 @@ module _ {K : Type 0} where
       used = away;
     }
 
+    -- what it adds may be taken from the counts, and there is room for another entry's
+    pub none_more : NoneMore counts (counted r.entry)
+    none_more = record {
+      hots = omega (arith, w.fewer (λ e. e.hot), k.warm);
+      past = omega (arith, w.fewer remembered, k.left);
+      idles = omega (arith, w.fewer idle, k.unlents);
+    }
+
+    pub sums_fit : (new : Entry K) → s.size < 2 ^ 64 → SumsFit (minus counts (counted r.entry)) (counted new)
+    sums_fit new h =
+        let ws = without_cell r.cell.0 rows in
+        record {
+          hots = omega (arith, w.fewer (λ e. e.hot), k.warm, number_some (λ e. e.hot) ws, at_most_one new.hot, w.size, k.full);
+          past = omega (arith, w.fewer remembered, k.left, number_some remembered ws, at_most_one (remembered new), w.size, k.full);
+          idles = omega (arith, w.fewer idle, k.unlents, number_some idle ws, at_most_one (idle new), w.size, k.full);
+        }
+
     -- a row takes a new entry and goes to the head
-    pub turned_linked : (new : Entry K) (h p q : ℕ) → Kept r.entry.frame new.frame
-        → h + cond r.entry.hot 1 0 ≡ hots + cond new.hot 1 0 → p + cond (remembered r.entry) 1 0 ≡ past + cond (remembered new) 1 0 → q + cond (idle r.entry) 1 0 ≡ idles + cond (idle new) 1 0
-        → Linked h p q (relinked r new s) (without_cell r.cell.0 rows ++ record { cell = r.cell; entry = new } ∷ [])
-    turned_linked new h p q ke he pe ie =
+    pub turned_linked : (new : Entry K) → Kept r.entry.frame new.frame
+        → Linked (plus (minus counts (counted r.entry)) (counted new)) (relinked r new s) (without_cell r.cell.0 rows ++ record { cell = r.cell; entry = new } ∷ [])
+    turned_linked new ke =
         let r' : Row K = record { cell = r.cell; entry = new } in
         let ws = without_cell r.cell.0 rows in
         record {
@@ -120,27 +142,25 @@ module _ {K : Type 0} where
         }
 
     -- a row takes a new entry where it stands
-    pub put_linked : (new : Entry K) (h p q : ℕ) → Kept r.entry.frame new.frame → (cold_resident new ≡ true → cold_resident r.entry ≡ true) → (new.test ≡ true → r.entry.test ≡ true)
-        → h + cond r.entry.hot 1 0 ≡ hots + cond new.hot 1 0 → p + cond (remembered r.entry) 1 0 ≡ past + cond (remembered new) 1 0 → q + cond (idle r.entry) 1 0 ≡ idles + cond (idle new) 1 0
-        → Linked h p q (rewritten r new s) (replaced r.cell.0 new rows)
-    put_linked new h p q ke ce te he pe ie = record {
+    pub put_linked : (new : Entry K) → Kept r.entry.frame new.frame → (cold_resident new ≡ true → cold_resident r.entry ≡ true) → (new.test ≡ true → r.entry.test ≡ true)
+        → Linked (plus (minus counts (counted r.entry)) (counted new)) (rewritten r new s) (replaced r.cell.0 new rows)
+    put_linked new ke ce te = record {
       ring = k.ring ∙ sym (cells_replaced r.cell.0 new rows);
       cold = ap (λ o. cond (cold_resident new) o (without r.cell.0 o)) k.cold ∙ w.put new cold_resident ce;
       test = ap (λ o. cond new.test o (without r.cell.0 o)) k.test ∙ w.put new (λ e. e.test) te;
       entries = all_hold s.entry r.cell.0 new rows k.entries;
       vacant = still_vacant s.entry r.cell.0 (Some new) (s.order Free) away k.vacant;
       full = omega (arith, length_replaced r.cell.0 new rows, k.full);
-      warm = omega (arith, w.renumber new (λ e. e.hot), k.warm);
-      left = omega (arith, w.renumber new remembered, k.left);
-      unlents = omega (arith, w.renumber new idle, k.unlents);
+      warm = omega (arith, w.renumber new (λ e. e.hot), w.fewer (λ e. e.hot), k.warm);
+      left = omega (arith, w.renumber new remembered, w.fewer remembered, k.left);
+      unlents = omega (arith, w.renumber new idle, w.fewer idle, k.unlents);
       directory = all_put (λ x. Slot s.slot x.cell.0 x.entry.frame) r.cell.0 new
           (λ x e. subst (λ j. Slot s.slot j new.frame) (sym e) (slot_kept s.slot r.cell.0 r.entry.frame new.frame ke slot)) rows k.directory;
     }
 
     -- a row is removed
-    pub cut_linked : (h p q : ℕ) → h + cond r.entry.hot 1 0 ≡ hots + 0 → p + cond (remembered r.entry) 1 0 ≡ past + 0 → q + cond (idle r.entry) 1 0 ≡ idles + 0
-        → Linked h p q (cut_out r s) (without_cell r.cell.0 rows)
-    cut_linked h p q he pe ie =
+    pub cut_linked : Linked (minus counts (counted r.entry)) (cut_out r s) (without_cell r.cell.0 rows)
+    cut_linked =
         let ws = without_cell r.cell.0 rows in
         record {
           ring = ap (without r.cell.0) k.ring ∙ sym (cells_without r.cell.0 rows);

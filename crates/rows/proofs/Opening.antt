@@ -8,7 +8,8 @@ use Rattle.chains.specs.Orders.{Misses}
 use Rattle.chains.specs.declared.cell.Chain.TheVariants.{Ring, Cold, Test, Free}
 use Rattle.chains.specs.Shape.{Shape, pushed, stored}
 use Rattle.rows.specs.Rows.{Linked}
-use Rattle.rows.specs.declared.Entry.{Entry}
+use Rattle.rows.specs.declared.Counts.{Counts}
+use Rattle.records.specs.declared.entry.Entry.{Entry}
 
 -- the first k cells are emptied
 pub record Emptied {K : Type 0} (s : Shape (Entry K)) (k : ℕ) : Type 0 where
@@ -35,6 +36,6 @@ module _ {K : Type 0} (s : Shape (Entry K)) (k : ℕ) (e : Emptied s k) where
     many = length_push (s.order Free) k ∙ ap (λ n. n + 1) e.many;
   }
 
-  pub all_empty : s.size ≡ k → Linked 0 0 0 s []
-  all_empty h = record
-      { ring = e.ring; cold = e.cold; test = e.test; entries = tt; vacant = e.vacant; full = omega (arith, e.many); warm = refl; left = refl; unlents = refl; directory = tt }
+  pub all_empty : s.size ≡ k → (n : Counts) → (n.hots ≡ 0) × ((n.past ≡ 0) × (n.idles ≡ 0)) → Linked n s []
+  all_empty h n z = record
+      { ring = e.ring; cold = e.cold; test = e.test; entries = tt; vacant = e.vacant; full = omega (arith, e.many); warm = z.0; left = z.1.0; unlents = z.1.1; directory = tt }

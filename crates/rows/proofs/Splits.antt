@@ -9,7 +9,7 @@ use Rattle.std.proofs.lemmas.Bool.{ne_eqb, eq-eqb, cond-true, cond-false, cond_b
 use Rattle.chains.specs.Orders.{Misses, Apart, without}
 use Rattle.chains.proofs.Rounds.{apart_before, apart_after}
 use Rattle.rows.specs.Rows.{cells_of, cells_by, number, without_cell, replaced}
-use Rattle.rows.specs.declared.Entry.{Entry}
+use Rattle.records.specs.declared.entry.Entry.{Entry}
 use Rattle.rows.specs.declared.Row.{Row}
 
 pub has_parts : {X : Type 0} (o : List X) (x : X) → ContainsAt o x → (xs : List X) × (zs : List X) × (o ≡ xs ++ x ∷ zs)

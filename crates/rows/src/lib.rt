@@ -7,258 +7,309 @@
 
 #![tactic(auto)]
 
-ghost use Rattle.std.specs.Prelude.{◌≡◌, ℕ, ◌+◌, ◌^◌, ◌<◌, true, false, [], ◌∷◌, ◌++◌, length, IfOk, if◌then◌else◌, Some, None};
+ghost use Rattle.std.specs.Prelude.{◌≡◌, ℕ, List, ◌+◌, ◌^◌, ◌<◌, true, false, [], ◌∷◌, ◌++◌, length, IfOk, Some, None};
 ghost use Rattle.std.specs.List.{ContainsAt};
+ghost use Rattle.std.specs.Iterator.{YieldsFirst, item_count};
 ghost use Rattle.chains.specs.Orders.{Misses};
 ghost use Rattle.chains.specs.declared.cell.Chain.TheVariants.{Ring, Cold, Test, Free};
 ghost use Rattle.chains.specs.Shape.{shape_of, Intact};
 ghost use Rattle.keys.specs.Same.{same_list};
-ghost use Rattle.rows.specs.Rows.{cold_resident, remembered, idle, evictable, lies_in, number, without_cell, cells_of, entries_of, rows_in, first_row, first_by, Stands, Members, Kept, Unnamed, Fits, noted, relinked, rewritten, replaced, joined, cut_out};
+ghost use Rattle.records.specs.Questions.{cold_resident, remembered, idle, evictable, lies_in};
+ghost use Rattle.rows.specs.declared.Row.{Row};
+ghost use Rattle.rows.specs.Rows.{counted, plus, minus, SumsFit, NoneMore, has_entries, rows_on, ahead, OnWay, number, without_cell, cells_of, entries_of, rows_in, first_row, first_by, Stands, Members, Kept, Unnamed, Fits, belongs, Placed, noted, refiled, rewritten, replaced};
 
 use chains::{Cell, Chain, Chains};
 use keys::{CellNo, FrameNo, Key};
+pub use records::Entry;
 use std::alloc::{AllocError, Global};
-
-/// A key's record in the ring.
-#[derive(Clone, Copy)]
-pub struct Entry<K> {
-    pub key: K,
-    pub hot: bool,
-    /// The frame that its page lies in; `None` where the page has left and the key is only remembered.
-    pub frame: Option<FrameNo>,
-    /// The test mark.
-    pub test: bool,
-    /// The reference bit.
-    pub bit: bool,
-    pub loans: u8,
-    /// The altered mark.
-    pub altered: bool,
-}
+use std::marker::Model;
+use std::ops::{Add, Sub};
 
 /// An entry of the ring, with the cell that it stands in.
-#[derive(Clone, Copy)]
+#[derive(Clone, Copy, PartialEq, Eq, Debug)]
 pub struct Row<K> {
     pub cell: CellNo,
     pub entry: Entry<K>,
 }
 
-/// The plain numbers of the rows: their chains, and how many entries are hot, are remembered, are resident without a loan.
-#[derive(Clone, Copy)]
-pub struct Table {
-    chains: Chains,
+/// How many entries are hot, are remembered, are resident without a loan.
+#[derive(Clone, Copy, PartialEq, Eq, Debug, Default)]
+struct Counts {
     hots: usize,
     past: usize,
     idles: usize,
 }
 
-/// Empties all cells. What the cells held before is of no account.
-pub fn open<K: Copy>(cells: &mut [Cell<Entry<K>>]) -> Table
-    requires { length cells.old < 2 ^ 32 }
-    ensures stands { Stands cells.new result }
-    ensures rows { rows_in cells.new result ≡ [] }
-{
-    let mut chains = chains::empty(cells);
-    let n = cells.len() as u32;
-    for i in 0..n {
-        chains::put(cells, &chains, CellNo(i), None);
-        chains::push(cells, &mut chains, Chain::Free, CellNo(i));
-    }
-    Table {
-        chains,
-        hots: 0,
-        past: 0,
-        idles: 0,
-    }
-}
-
-/// Whether an entry is resident and cold.
-fn is_cold_resident<K>(e: &Entry<K>) -> bool
-    ensures { result ≡ cold_resident e.now }
-{
-    match e.frame {
-        None => false,
-        Some(_) => !e.hot,
-    }
-}
-
-/// Whether an entry is remembered.
-fn is_remembered<K>(e: &Entry<K>) -> bool
-    ensures { result ≡ remembered e.now }
-{
-    match e.frame {
-        None => true,
-        Some(_) => false,
-    }
-}
-
-/// Whether an entry is resident without a loan.
-fn is_idle<K>(e: &Entry<K>) -> bool
-    ensures { result ≡ idle e.now }
-{
-    match e.frame {
-        None => false,
-        Some(_) => e.loans == 0,
-    }
-}
-
-/// Whether an entry's page lies in a frame.
-fn lies_in<K>(e: &Entry<K>, frame: FrameNo) -> bool
-    ensures { result ≡ lies_in frame.0 e.now }
-{
-    match e.frame {
-        None => false,
-        Some(f) => frame.0 == f.0,
-    }
-}
-
-/// A count after one of the counted things has changed.
-fn recount(n: usize, was: bool, is: bool) -> usize
-    requires some { was ≡ true → 0 < n }
-    requires room { was ≡ false → n + 1 < 2 ^ 64 }
-    ensures { result + (if was then 1 else 0) ≡ n + (if is then 1 else 0) }
-{
-    match (was, is) {
-        (true, false) => n - 1,
-        (false, true) => n + 1,
-        (true, true) => n,
-        (false, false) => n,
-    }
-}
-
-/// How many entries are hot.
-pub fn hot_count<K>(cells: &[Cell<Entry<K>>], table: &Table) -> usize
-    requires { Stands cells.now table.now }
-    ensures { result ≡ number (λ e. e.hot) (rows_in cells.now table.now) }
-{
-    table.hots
-}
-
-/// How many entries are remembered.
-pub fn remembered_count<K>(cells: &[Cell<Entry<K>>], table: &Table) -> usize
-    requires { Stands cells.now table.now }
-    ensures { result ≡ number remembered (rows_in cells.now table.now) }
-{
-    table.past
-}
-
-/// How many entries are resident without a loan.
-pub fn idle_count<K>(cells: &[Cell<Entry<K>>], table: &Table) -> usize
-    requires { Stands cells.now table.now }
-    ensures { result ≡ number idle (rows_in cells.now table.now) }
-{
-    table.idles
-}
-
-/// The row at the tail.
-pub fn tail_row<K: Copy>(cells: &[Cell<Entry<K>>], table: &Table) -> Option<Row<K>>
-    requires { Stands cells.now table.now }
-    ensures { result ≡ first_row (rows_in cells.now table.now) }
-{
-    let Some(cell) = chains::first(cells, &table.chains, Chain::Ring) else {
-        return None;
-    };
-    let Some(entry) = chains::entry(cells, &table.chains, cell) else {
-        return None;
-    };
-    Some(Row { cell, entry })
-}
-
-/// The row of a cell of the ring.
-fn row_at<K: Copy>(cells: &[Cell<Entry<K>>], table: &Table, cell: CellNo) -> Row<K>
-    requires stands { Stands cells.now table.now }
-    requires there { ContainsAt (cells_of (rows_in cells.now table.now)) cell.0 }
-    ensures { (x : Row K) → ContainsAt (rows_in cells.now table.now) x → x.cell.0 ≡ cell.0 → result ≡ x }
-{
-    let entry = chains::entry(cells, &table.chains, cell).unwrap();
-    Row { cell, entry }
-}
-
-/// The row with the test mark nearest the tail.
-pub fn marked_row<K: Copy>(cells: &[Cell<Entry<K>>], table: &Table) -> Option<Row<K>>
-    requires { Stands cells.now table.now }
-    ensures { result ≡ first_by (λ e. e.test) (rows_in cells.now table.now) }
-{
-    let Some(at) = chains::first(cells, &table.chains, Chain::Test) else {
-        return None;
-    };
-    Some(row_at(cells, table, at))
-}
-
-/// The resident cold row nearest the tail that has no loan. It passes over those on loan, and looks at no other row.
-pub fn candidate<K: Copy>(cells: &[Cell<Entry<K>>], table: &Table) -> Option<Row<K>>
-    requires { Stands cells.now table.now }
-    ensures { result ≡ first_by evictable (rows_in cells.now table.now) }
-{
-    let n = chains::len(cells, &table.chains, Chain::Cold);
-    let Some(mut at) = chains::first(cells, &table.chains, Chain::Cold) else {
-        return None;
-    };
-    for _k in 0..n {
-        let row = row_at(cells, table, at);
-        let loans = row.entry.loans;
-        if loans == 0 {
-            return Some(row);
+impl Counts {
+    /// What an entry adds to each count.
+    fn of<K>(entry: &Entry<K>) -> Counts
+        ensures { result ≡ counted entry.now }
+    {
+        Counts {
+            hots: usize::from(entry.hot),
+            past: usize::from(entry.is_remembered()),
+            idles: usize::from(entry.is_idle()),
         }
-        at = chains::next(cells, &table.chains, Chain::Cold, at);
     }
-    None
 }
 
-/// The row of a key: what a search of the whole ring from the tail finds. How it searches is nobody's business.
-pub fn find<K: Key + Copy>(cells: &[Cell<Entry<K>>], table: &Table, key: &K) -> Option<Row<K>>
-    requires { Stands cells.now table.now }
-    ensures { result ≡ first_by (λ e. same_list (K.Key.meaning key.now) (K.Key.meaning e.key)) (rows_in cells.now table.now) }
-{
-    let n = chains::len(cells, &table.chains, Chain::Ring);
-    let Some(mut at) = chains::first(cells, &table.chains, Chain::Ring) else {
-        return None;
-    };
-    for _k in 0..n {
-        let row = row_at(cells, table, at);
-        if key.same(&row.entry.key) {
-            return Some(row);
+impl Add for Counts {
+    type Output = Counts;
+
+    ghost can_add = { λ a b. SumsFit a b };
+
+    ghost add_gives = { λ a b r. r ≡ plus a b };
+
+    fn add(self, rhs: Counts) -> Counts {
+        Counts {
+            hots: self.hots + rhs.hots,
+            past: self.past + rhs.past,
+            idles: self.idles + rhs.idles,
         }
-        at = chains::next(cells, &table.chains, Chain::Ring, at);
     }
-    None
 }
 
-/// All entries, from the tail to the head, in a vector of their own: for whoever wants to look at the whole ring.
-pub fn list<K: Copy>(
-    heap: Global,
-    cells: &[Cell<Entry<K>>],
-    table: &Table,
-) -> Result<Vec<Entry<K>>, AllocError>
-    requires { Stands cells.now table.now }
-    ensures { IfOk result (λ v. v.items ≡ entries_of (rows_in cells.now table.now)) }
-{
-    let mut all = Vec::new(heap);
-    let n = chains::len(cells, &table.chains, Chain::Ring);
-    let Some(mut at) = chains::first(cells, &table.chains, Chain::Ring) else {
-        return Ok(all);
-    };
-    for _k in 0..n {
-        let row = row_at(cells, table, at);
-        all.push(row.entry)?;
-        at = chains::next(cells, &table.chains, Chain::Ring, at);
+impl Sub for Counts {
+    type Output = Counts;
+
+    ghost can_sub = { λ a b. NoneMore a b };
+
+    ghost sub_gives = { λ a b r. r ≡ minus a b };
+
+    fn sub(self, rhs: Counts) -> Counts {
+        Counts {
+            hots: self.hots - rhs.hots,
+            past: self.past - rhs.past,
+            idles: self.idles - rhs.idles,
+        }
     }
-    Ok(all)
 }
 
-/// The row whose page lies in a frame, in constant time: what a search of the whole ring from the tail finds.
-pub fn by_frame<K: Copy>(cells: &[Cell<Entry<K>>], table: &Table, frame: FrameNo) -> Option<Row<K>>
-    requires { Stands cells.now table.now }
-    ensures { result ≡ first_by (lies_in frame.0) (rows_in cells.now table.now) }
-{
-    let cell = chains::slot(cells, &table.chains, frame);
-    let Some(entry) = chains::entry(cells, &table.chains, cell) else {
-        return None;
-    };
-    if !lies_in(&entry, frame) {
-        return None;
-    }
-    Some(Row { cell, entry })
+/// The plain numbers of the rows: their chains and the counts.
+// stays: that the cells and the numbers agree, `Stands`, is a clause of each call and no invariant of this type, since the
+// cells are lent to each call (fixed memory, no heap): no value holds both. `Chains` says what was tried.
+#[derive(Clone, Copy)]
+pub struct Table {
+    chains: Chains,
+    counts: Counts,
 }
+
+impl Table {
+    /// Empties all cells. What the cells held before is of no account.
+    pub fn open<K: Copy>(cells: &mut [Cell<Entry<K>>]) -> Table
+        requires { length cells.old < 2 ^ 32 }
+        ensures stands { Stands cells.new result }
+        ensures rows { rows_in cells.new result ≡ [] }
+    {
+        let mut chains = Chains::empty(cells);
+        let n = cells.len() as u32;
+        // stays: over the cells' numbers, since `put` and `push` take all cells and the number of one.
+        for i in 0..n {
+            chains.put(cells, CellNo(i), None);
+            chains.push(cells, Chain::Free, CellNo(i));
+        }
+        Table {
+            chains,
+            counts: Counts::default(),
+        }
+    }
+
+    /// How many entries are hot.
+    pub fn hot_count<K>(&self, cells: &[Cell<Entry<K>>]) -> usize
+        requires { Stands cells.now self.now }
+        ensures { result ≡ number (λ e. e.hot) (rows_in cells.now self.now) }
+    {
+        self.counts.hots
+    }
+
+    /// How many entries are remembered.
+    pub fn remembered_count<K>(&self, cells: &[Cell<Entry<K>>]) -> usize
+        requires { Stands cells.now self.now }
+        ensures { result ≡ number remembered (rows_in cells.now self.now) }
+    {
+        self.counts.past
+    }
+
+    /// How many entries are resident without a loan.
+    pub fn idle_count<K>(&self, cells: &[Cell<Entry<K>>]) -> usize
+        requires { Stands cells.now self.now }
+        ensures { result ≡ number idle (rows_in cells.now self.now) }
+    {
+        self.counts.idles
+    }
+
+    /// The rows of one chain of entries, from the tail to the head.
+    fn walk<'a, K: Copy>(&'a self, cells: &'a [Cell<Entry<K>>], which: Chain) -> Walk<'a, K>
+        requires stands { Stands cells.now self.now }
+        requires entries { has_entries which ≡ true }
+        ensures { result ≡ rows_on which (rows_in cells.now self.now) }
+    {
+        let chains = &self.chains;
+        Walk {
+            cells,
+            chains,
+            which,
+            at: chains.first(cells, which).unwrap_or(CellNo(0)),
+            left: chains.len(cells, which),
+        }
+    }
+
+    /// The row at the tail.
+    pub fn tail_row<K: Copy>(&self, cells: &[Cell<Entry<K>>]) -> Option<Row<K>>
+        requires { Stands cells.now self.now }
+        ensures { result ≡ first_row (rows_in cells.now self.now) }
+    {
+        self.walk(cells, Chain::Ring).next()
+    }
+
+    /// The row with the test mark nearest the tail.
+    pub fn marked_row<K: Copy>(&self, cells: &[Cell<Entry<K>>]) -> Option<Row<K>>
+        requires { Stands cells.now self.now }
+        ensures { result ≡ first_by (λ e. e.test) (rows_in cells.now self.now) }
+    {
+        self.walk(cells, Chain::Test).next()
+    }
+
+    /// The resident cold row nearest the tail that has no loan. It passes over those on loan, and looks at no other row.
+    pub fn candidate<K: Copy>(&self, cells: &[Cell<Entry<K>>]) -> Option<Row<K>>
+        requires { Stands cells.now self.now }
+        ensures { result ≡ first_by evictable (rows_in cells.now self.now) }
+    {
+        self.walk(cells, Chain::Cold)
+            .find(|row| row.entry.loans == 0)
+    }
+
+    /// The row of a key: what a search of the whole ring from the tail finds. How it searches is nobody's business.
+    pub fn find<K: Key + Copy>(&self, cells: &[Cell<Entry<K>>], key: &K) -> Option<Row<K>>
+        requires { Stands cells.now self.now }
+        ensures { result ≡ first_by (λ e. same_list (K.Key.meaning key.now) (K.Key.meaning e.key)) (rows_in cells.now self.now) }
+    {
+        self.walk(cells, Chain::Ring)
+            .find(|row| key.same(&row.entry.key))
+    }
+
+    /// All entries, from the tail to the head, in a vector of their own: for whoever wants to look at the whole ring.
+    pub fn list<K: Copy>(
+        &self,
+        heap: Global,
+        cells: &[Cell<Entry<K>>],
+    ) -> Result<Vec<Entry<K>>, AllocError>
+        requires { Stands cells.now self.now }
+        ensures { IfOk result (λ v. v.items ≡ entries_of (rows_in cells.now self.now)) }
+    {
+        self.walk(cells, Chain::Ring)
+            .map(|row| row.entry)
+            .collect(heap)
+    }
+
+    /// The row whose page lies in a frame, in constant time: what a search of the whole ring from the tail finds.
+    pub fn by_frame<K: Copy>(&self, cells: &[Cell<Entry<K>>], frame: FrameNo) -> Option<Row<K>>
+        requires { Stands cells.now self.now }
+        ensures { result ≡ first_by (lies_in frame.0) (rows_in cells.now self.now) }
+    {
+        let cell = self.chains.slot(cells, frame);
+        let entry = self.chains.entry(cells, cell)?;
+        entry.lies_in(frame).then_some(Row { cell, entry })
+    }
+
+    /// A new entry at the head; the answer is its cell. No row may name the entry's frame.
+    pub fn enter<K: Copy>(&mut self, cells: &mut [Cell<Entry<K>>], new: Entry<K>) -> CellNo
+        requires stands { Stands cells.old self.old }
+        requires room { length (rows_in cells.old self.old) < length cells.old }
+        requires frame { Unnamed (length cells.old) (rows_in cells.old self.old) new.frame }
+        ensures stands { Stands cells.new self.new }
+        ensures rows { rows_in cells.new self.new ≡ rows_in cells.old self.old ++ record { cell = result; entry = new } ∷ [] }
+    {
+        let i = self.chains.first(cells, Chain::Free).unwrap();
+        note(cells, &self.chains, i, new.frame);
+        refile(cells, &mut self.chains, i, None, Some(new));
+        self.counts = self.counts + Counts::of(&new);
+        i
+    }
+
+    /// The entry of a row becomes `new` and goes to the head.
+    pub fn turn<K: Copy>(&mut self, cells: &mut [Cell<Entry<K>>], row: Row<K>, new: Entry<K>)
+        requires stands { Stands cells.old self.old }
+        requires there { ContainsAt (rows_in cells.old self.old) row }
+        requires frame { Kept row.entry.frame new.frame }
+        ensures stands { Stands cells.new self.new }
+        ensures rows { rows_in cells.new self.new ≡ without_cell row.cell.0 (rows_in cells.old self.old) ++ record { cell = row.cell; entry = new } ∷ [] }
+    {
+        refile(
+            cells,
+            &mut self.chains,
+            row.cell,
+            Some(row.entry),
+            Some(new),
+        );
+        self.counts = self.counts - Counts::of(&row.entry) + Counts::of(&new);
+    }
+
+    /// The entry of a row becomes `new` where it stands. It joins no chain by that: what is cold or marked then was so before.
+    pub fn rewrite<K: Copy>(&mut self, cells: &mut [Cell<Entry<K>>], row: Row<K>, new: Entry<K>)
+        requires stands { Stands cells.old self.old }
+        requires there { ContainsAt (rows_in cells.old self.old) row }
+        requires frame { Kept row.entry.frame new.frame }
+        requires cold { cold_resident new ≡ true → cold_resident row.entry ≡ true }
+        requires test { new.test ≡ true → row.entry.test ≡ true }
+        ensures stands { Stands cells.new self.new }
+        ensures rows { rows_in cells.new self.new ≡ replaced row.cell.0 new (rows_in cells.old self.old) }
+    {
+        rewire(cells, &mut self.chains, row, new);
+        self.counts = self.counts - Counts::of(&row.entry) + Counts::of(&new);
+    }
+
+    /// A row is removed.
+    pub fn take_out<K: Copy>(&mut self, cells: &mut [Cell<Entry<K>>], row: Row<K>)
+        requires stands { Stands cells.old self.old }
+        requires there { ContainsAt (rows_in cells.old self.old) row }
+        ensures stands { Stands cells.new self.new }
+        ensures rows { rows_in cells.new self.new ≡ without_cell row.cell.0 (rows_in cells.old self.old) }
+    {
+        refile(cells, &mut self.chains, row.cell, Some(row.entry), None);
+        self.counts = self.counts - Counts::of(&row.entry);
+    }
+}
+
+/// The rows of one chain that are still to come.
+#[derive(Drop)]
+struct Walk<'a, K> {
+    cells: &'a [Cell<Entry<K>>],
+    chains: &'a Chains,
+    which: Chain,
+    /// The cell of the next row, if one is left.
+    // stays: no `Option`. `left` says when to stop; past that `at` is not read, be it the first cell again, where a chain goes
+    // round, or any cell, where a chain is empty.
+    at: CellNo,
+    left: usize,
+}
+
+impl<'a, K> Model for Walk<'a, K> {
+    ghost Value = { List (Row K) };
+
+    ghost view = { λ w. ahead (shape_of w.cells.now w.chains.now) w.which w.left };
+
+    ghost invariant = { λ w. OnWay (shape_of w.cells.now w.chains.now) w.which w.at.0 w.left };
+}
+
+impl<'a, K: Copy> Iterator for Walk<'a, K> {
+    type Item = Row<K>;
+
+    ghost next_gives = { YieldsFirst (λ rows. rows) };
+
+    ghost remaining = { item_count (λ rows. rows) };
+
+    fn next(&mut self) -> Option<Row<K>> {
+        self.left = self.left.checked_sub(1)?;
+        let cell = self.at;
+        let entry = self.chains.entry(self.cells, cell).unwrap();
+        self.at = self.chains.next(self.cells, self.which, cell);
+        Some(Row { cell, entry })
+    }
+}
+
+// stays: the functions below change the chains alone, while the counts of a `Table` are not yet right; `Chains` is another
+// crate's, so they can't be its methods.
 
 /// The slot of a frame, if there is one, is given a cell.
 fn note<K>(cells: &mut [Cell<Entry<K>>], chains: &Chains, i: CellNo, frame: Option<FrameNo>)
@@ -267,34 +318,49 @@ fn note<K>(cells: &mut [Cell<Entry<K>>], chains: &Chains, i: CellNo, frame: Opti
     ensures intact { Intact cells.new chains.now }
     ensures shape { shape_of cells.new chains.now ≡ noted i.0 frame (shape_of cells.old chains.now) }
 {
-    match frame {
-        Some(f) => chains::set_slot(cells, chains, f, i),
-        None => {}
+    if let Some(f) = frame {
+        chains.set_slot(cells, f, i);
     }
 }
 
-/// A cell of the ring takes a new entry and goes to the head, and the chains of cold and of marked entries follow.
-fn relink<K: Copy>(cells: &mut [Cell<Entry<K>>], chains: &mut Chains, row: Row<K>, new: Entry<K>)
-    requires intact { Intact cells.old chains.old }
-    requires there { Members (shape_of cells.old chains.old) row }
-    ensures intact { Intact cells.new chains.new }
-    ensures shape { shape_of cells.new chains.new ≡ relinked row new (shape_of cells.old chains.old) }
+/// Whether a cell with such an entry, or with none, belongs to a chain.
+fn belongs<K: Copy>(which: Chain, entry: Option<Entry<K>>) -> bool
+    ensures { result ≡ belongs which entry }
 {
-    let i = row.cell;
-    chains::put(cells, chains, i, Some(new));
-    chains::to_head(cells, chains, Chain::Ring, i);
-    chains::follow(
-        cells,
-        chains,
-        Chain::Cold,
-        i,
-        is_cold_resident(&row.entry),
-        is_cold_resident(&new),
-    );
-    chains::follow(cells, chains, Chain::Test, i, row.entry.test, new.test);
+    match which {
+        Chain::Ring => entry.is_some(),
+        Chain::Cold => entry.is_some_and(|e| e.is_cold_resident()),
+        Chain::Test => entry.is_some_and(|e| e.test),
+        Chain::Free => entry.is_none(),
+    }
+}
+
+/// A cell takes an entry, another entry or none. It goes to the head of each chain that it then belongs to, and leaves the
+/// others.
+fn refile<K: Copy>(
+    cells: &mut [Cell<Entry<K>>],
+    chains: &mut Chains,
+    i: CellNo,
+    was: Option<Entry<K>>,
+    is: Option<Entry<K>>,
+)
+    requires intact { Intact cells.old chains.old }
+    requires inside { i.0 < (shape_of cells.old chains.old).size }
+    requires there { Placed i.0 was (shape_of cells.old chains.old) }
+    ensures intact { Intact cells.new chains.new }
+    ensures shape { shape_of cells.new chains.new ≡ refiled i.0 is (shape_of cells.old chains.old) }
+{
+    chains.put(cells, i, is);
+    // stays: four calls and no loop over the chains: a loop needs that no chain comes twice, and is no shorter.
+    let (ring, cold, test, free) = (Chain::Ring, Chain::Cold, Chain::Test, Chain::Free);
+    chains.follow(cells, ring, i, belongs(ring, was), belongs(ring, is));
+    chains.follow(cells, cold, i, belongs(cold, was), belongs(cold, is));
+    chains.follow(cells, test, i, belongs(test, was), belongs(test, is));
+    chains.follow(cells, free, i, belongs(free, was), belongs(free, is));
 }
 
 /// A cell of the ring takes a new entry where it stands, and may leave the chains of cold and of marked entries.
+// stays: apart from `refile`, which moves the cell to the head of its chains.
 fn rewire<K: Copy>(cells: &mut [Cell<Entry<K>>], chains: &mut Chains, row: Row<K>, new: Entry<K>)
     requires intact { Intact cells.old chains.old }
     requires there { Members (shape_of cells.old chains.old) row }
@@ -302,116 +368,13 @@ fn rewire<K: Copy>(cells: &mut [Cell<Entry<K>>], chains: &mut Chains, row: Row<K
     ensures shape { shape_of cells.new chains.new ≡ rewritten row new (shape_of cells.old chains.old) }
 {
     let i = row.cell;
-    chains::put(cells, chains, i, Some(new));
-    chains::keep(
+    chains.put(cells, i, Some(new));
+    chains.keep(
         cells,
-        chains,
         Chain::Cold,
         i,
-        is_cold_resident(&row.entry),
-        is_cold_resident(&new),
+        row.entry.is_cold_resident(),
+        new.is_cold_resident(),
     );
-    chains::keep(cells, chains, Chain::Test, i, row.entry.test, new.test);
-}
-
-/// An unused cell takes an entry and joins the ring at the head, and the chains that the entry belongs to; the directory
-/// has it for the entry's frame.
-fn link_in<K: Copy>(cells: &mut [Cell<Entry<K>>], chains: &mut Chains, i: CellNo, new: Entry<K>)
-    requires intact { Intact cells.old chains.old }
-    requires slot { Fits (length cells.old) new.frame }
-    requires inside { i.0 < (shape_of cells.old chains.old).size }
-    requires free { ContainsAt ((shape_of cells.old chains.old).order Free) i.0 }
-    requires ring { Misses i.0 ((shape_of cells.old chains.old).order Ring) }
-    requires cold { Misses i.0 ((shape_of cells.old chains.old).order Cold) }
-    requires test { Misses i.0 ((shape_of cells.old chains.old).order Test) }
-    ensures intact { Intact cells.new chains.new }
-    ensures shape { shape_of cells.new chains.new ≡ joined i.0 new (shape_of cells.old chains.old) }
-{
-    note(cells, chains, i, new.frame);
-    chains::put(cells, chains, i, Some(new));
-    chains::unlink(cells, chains, Chain::Free, i);
-    chains::push(cells, chains, Chain::Ring, i);
-    chains::follow(cells, chains, Chain::Cold, i, false, is_cold_resident(&new));
-    chains::follow(cells, chains, Chain::Test, i, false, new.test);
-}
-
-/// A cell leaves the ring, and every chain of the ring, for the unused cells.
-fn cut_out<K: Copy>(cells: &mut [Cell<Entry<K>>], chains: &mut Chains, row: Row<K>)
-    requires intact { Intact cells.old chains.old }
-    requires there { Members (shape_of cells.old chains.old) row }
-    ensures intact { Intact cells.new chains.new }
-    ensures shape { shape_of cells.new chains.new ≡ cut_out row (shape_of cells.old chains.old) }
-{
-    let i = row.cell;
-    chains::put(cells, chains, i, None);
-    chains::unlink(cells, chains, Chain::Ring, i);
-    chains::follow(
-        cells,
-        chains,
-        Chain::Cold,
-        i,
-        is_cold_resident(&row.entry),
-        false,
-    );
-    chains::follow(cells, chains, Chain::Test, i, row.entry.test, false);
-    chains::push(cells, chains, Chain::Free, i);
-}
-
-/// A new entry at the head; the answer is its cell. No row may name the entry's frame.
-pub fn enter<K: Copy>(cells: &mut [Cell<Entry<K>>], table: &mut Table, new: Entry<K>) -> CellNo
-    requires stands { Stands cells.old table.old }
-    requires room { length (rows_in cells.old table.old) < length cells.old }
-    requires frame { Unnamed (length cells.old) (rows_in cells.old table.old) new.frame }
-    ensures stands { Stands cells.new table.new }
-    ensures rows { rows_in cells.new table.new ≡ rows_in cells.old table.old ++ record { cell = result; entry = new } ∷ [] }
-{
-    let i = chains::first(cells, &table.chains, Chain::Free).unwrap();
-    link_in(cells, &mut table.chains, i, new);
-    table.hots = recount(table.hots, false, new.hot);
-    table.past = recount(table.past, false, is_remembered(&new));
-    table.idles = recount(table.idles, false, is_idle(&new));
-    i
-}
-
-/// The entry of a row becomes `new` and goes to the head.
-pub fn turn<K: Copy>(cells: &mut [Cell<Entry<K>>], table: &mut Table, row: Row<K>, new: Entry<K>)
-    requires stands { Stands cells.old table.old }
-    requires there { ContainsAt (rows_in cells.old table.old) row }
-    requires frame { Kept row.entry.frame new.frame }
-    ensures stands { Stands cells.new table.new }
-    ensures rows { rows_in cells.new table.new ≡ without_cell row.cell.0 (rows_in cells.old table.old) ++ record { cell = row.cell; entry = new } ∷ [] }
-{
-    relink(cells, &mut table.chains, row, new);
-    table.hots = recount(table.hots, row.entry.hot, new.hot);
-    table.past = recount(table.past, is_remembered(&row.entry), is_remembered(&new));
-    table.idles = recount(table.idles, is_idle(&row.entry), is_idle(&new));
-}
-
-/// The entry of a row becomes `new` where it stands. It joins no chain by that: what is cold or marked then was so before.
-pub fn rewrite<K: Copy>(cells: &mut [Cell<Entry<K>>], table: &mut Table, row: Row<K>, new: Entry<K>)
-    requires stands { Stands cells.old table.old }
-    requires there { ContainsAt (rows_in cells.old table.old) row }
-    requires frame { Kept row.entry.frame new.frame }
-    requires cold { cold_resident new ≡ true → cold_resident row.entry ≡ true }
-    requires test { new.test ≡ true → row.entry.test ≡ true }
-    ensures stands { Stands cells.new table.new }
-    ensures rows { rows_in cells.new table.new ≡ replaced row.cell.0 new (rows_in cells.old table.old) }
-{
-    rewire(cells, &mut table.chains, row, new);
-    table.hots = recount(table.hots, row.entry.hot, new.hot);
-    table.past = recount(table.past, is_remembered(&row.entry), is_remembered(&new));
-    table.idles = recount(table.idles, is_idle(&row.entry), is_idle(&new));
-}
-
-/// A row is removed.
-pub fn take_out<K: Copy>(cells: &mut [Cell<Entry<K>>], table: &mut Table, row: Row<K>)
-    requires stands { Stands cells.old table.old }
-    requires there { ContainsAt (rows_in cells.old table.old) row }
-    ensures stands { Stands cells.new table.new }
-    ensures rows { rows_in cells.new table.new ≡ without_cell row.cell.0 (rows_in cells.old table.old) }
-{
-    cut_out(cells, &mut table.chains, row);
-    table.hots = recount(table.hots, row.entry.hot, false);
-    table.past = recount(table.past, is_remembered(&row.entry), false);
-    table.idles = recount(table.idles, is_idle(&row.entry), false);
+    chains.keep(cells, Chain::Test, i, row.entry.test, new.test);
 }

@@ -7,3 +7,12 @@
 mod bundle_tests;
 #[cfg(test)]
 mod file_tests;
+
+#[cfg(test)]
+use stores::StoreFault;
+
+// The number of a refusal; nothing where all was granted.
+#[cfg(test)]
+fn refusal(answer: Result<(), StoreFault>) -> Option<u8> {
+    answer.err().map(|fault| fault.number())
+}

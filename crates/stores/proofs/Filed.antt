@@ -2,7 +2,7 @@
 use Rattle.std.proofs.Common.{◌≡◌, ℕ, ◌+◌, ◌*◌, ◌<◌, ◌≤◌, Bool, true, false, cond, ◌&&◌, eqb, leb, ◌⊎◌, List, [], ◌∷◌, length, take, Some, None, Option, sym, refl, ap, ◌∙◌, inl, inr, arith}
 use mathlib.Core.Path.{fun_ext}
 use Rattle.std.proofs.lemmas.List.{length-take, length-drop}
-use Rattle.std.proofs.lemmas.Bool.{leb-true, le-leb, eqb-true, eqb-false, cond-true, cases_order}
+use Rattle.std.proofs.lemmas.Bool.{le-leb, eqb-true, eqb-false, cond-true, cases_order}
 use Rattle.stores.specs.Meaning.{Meaning, paged, with_page}
 use Rattle.stores.specs.Parts.{part_of, laid}
 use Rattle.stores.specs.Files.{file_page, file_pages, file_of}
@@ -10,20 +10,6 @@ use Rattle.stores.proofs.Bytes.{row, length-laid, part_here, part_before, part_a
 
 pub part_sized : (p n : ℕ) (bytes : List ℕ) → n * p + p ≤ length bytes → length (part_of p bytes n) ≡ p
 part_sized p n bytes h = simp (length-take, length-drop) (omega arith)
-
-nothing : {A X : Type 0} {x : X} → ◌≡◌ {A = Option X} None (Some x) → A
-nothing h = let z : ◌≡◌ {A = ℕ} 0 1 = cc in absurd (omega arith)
-
-page_sized : (p n : ℕ) (bytes page : List ℕ) (b : Bool) → leb (n * p + p) (length bytes) ≡ b → cond b (Some (part_of p bytes n)) None ≡ Some page → length page ≡ p
-page_sized p n bytes page true h e =
-    let s : part_of p bytes n ≡ page = cc in
-    ap length (sym s) ∙ part_sized p n bytes (leb-true (n * p + p) (length bytes) h)
-page_sized p n bytes page false h e = nothing e
-
-pub file_sized : (p : ℕ) (bytes k page : List ℕ) → file_pages p bytes k ≡ Some page → length page ≡ p
-file_sized p bytes [] page e = nothing e
-file_sized p bytes (n ∷ []) page e = page_sized p n bytes page (leb (n * p + p) (length bytes)) refl e
-file_sized p bytes (n ∷ (j ∷ more)) page e = nothing e
 
 -- the page in a place, after another was laid in place n
 part-laid_same : (p n : ℕ) (new bytes : List ℕ) → n * p + p ≤ length bytes → length new ≡ p → part_of p (laid (n * p) new bytes) n ≡ new

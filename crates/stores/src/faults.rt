@@ -4,6 +4,7 @@ ghost use Rattle.std.specs.Prelude.{◌≡◌, Some};
 ghost use Rattle.stores.specs.Faults.{number, reason, layer_name};
 ghost use Rattle.stores.specs.declared.faults.Layer.TheVariants.{Store};
 
+use std::error::Error;
 use std::fmt;
 
 /// Why a store refused. Each case has its number (specs/Faults.antt), and what was asked did not change anything.
@@ -37,6 +38,8 @@ pub enum Layer {
 
 impl StoreFault {
     /// The number of the refusal.
+    // stays: a `match` and no discriminants. The pool's faults, which carry a store's, need one, and an edit that gives a fault the
+    // number of another has to compile.
     pub fn number(&self) -> u8
         ensures { result ≡ number self.now }
     {
@@ -86,6 +89,8 @@ impl fmt::Display for StoreFault {
         f.write_str(self.reason())
     }
 }
+
+impl Error for StoreFault {}
 
 /// The layer, as a refusal is printed: `refused 9 by store`.
 impl fmt::Display for Layer {

@@ -1,42 +1,44 @@
 //! What a work file does: opening, and the calls of a store.
 
-ghost use Rattle.std.specs.Prelude.{◌≡◌, ℕ, ◌+◌, ◌*◌, ◌<◌, ◌≤◌, cond, List, [], ◌∷◌, length, None, vec_len, MatchResult};
-ghost use Rattle.stores.specs.Faults.{refused};
+ghost use Rattle.std.specs.Prelude.{◌≡◌, ℕ, ◌+◌, ◌*◌, ◌<◌, ◌≤◌, cond, List, [], ◌∷◌, length, Some, None, vec_len, IfOk, MatchResult};
+ghost use Rattle.stores.specs.Faults.{number, refused};
 ghost use Rattle.stores.specs.declared.faults.StoreFault.TheVariants.{NotHeld};
 ghost use Rattle.stores.specs.Files.{file_refusal, file_of, meant_by};
 ghost use Rattle.stores.specs.Meaning.{with_page};
-ghost use Rattle.stores.specs.Parts.{laid};
+ghost use Rattle.stores.specs.Parts.{part_of};
 
 use crate::faults::StoreFault;
 use crate::file::WorkFile;
+use crate::pages::{is_page_size, lay};
 use crate::store::Store;
 use keys::PageNo;
 
-const LARGEST_PAGE: usize = 4096;
-
 const MOST_PAGES: usize = 1_048_576;
-
-// Lays the page on the bytes from an offset.
-fn lay(bytes: &mut [u8], at: usize, page: &[u8])
-    requires { at + length page.now ≤ length bytes.old }
-    ensures { bytes.new ≡ laid at page.now bytes.old }
-{
-    let end = at + page.len();
-    bytes[at..end].copy_from_slice(page);
-}
 
 impl WorkFile {
     /// The questions of opening the bytes as a work file with pages of `page_size` bytes.
     pub fn check(bytes: &[u8], page_size: usize) -> Result<(), StoreFault>
         ensures { refused result ≡ file_refusal page_size (length bytes.now) }
     {
-        if page_size < 1 || page_size > LARGEST_PAGE {
+        if !is_page_size(page_size) {
             return Err(StoreFault::PageSize);
         }
         if bytes.len() % page_size != 0 || bytes.len() / page_size > MOST_PAGES {
             return Err(StoreFault::FileLength);
         }
         Ok(())
+    }
+
+    /// The work file over the bytes, or why they are refused, with the bytes.
+    pub fn new(bytes: Vec<u8>, page_size: usize) -> Result<WorkFile, (StoreFault, Vec<u8>)>
+        ensures answer { MatchResult result (λ _. file_refusal page_size (vec_len bytes) ≡ None) (λ r. file_refusal page_size (vec_len bytes) ≡ Some (number r.0)) }
+        ensures meaning { IfOk result (λ w. meant_by w ≡ file_of page_size bytes.items) }
+        ensures bytes { MatchResult result (λ w. w.bytes ≡ bytes) (λ r. r.1 ≡ bytes) }
+    {
+        match WorkFile::check(bytes.as_slice(), page_size) {
+            Ok(()) => Ok(WorkFile::open(bytes, page_size)),
+            Err(fault) => Err((fault, bytes)),
+        }
     }
 
     /// The work file over the bytes; `check` has said yes to them.
@@ -59,29 +61,26 @@ impl WorkFile {
     pub fn into_bytes(self) -> Vec<u8>
         ensures { result ≡ self.bytes }
     {
-        let WorkFile {
-            bytes,
-            page_size: _,
-        } = self;
+        let WorkFile { bytes, .. } = self;
         bytes
     }
 
-    // Where the page begins, if it lies within the bytes.
-    fn place(&self, key: &PageNo) -> Result<usize, StoreFault>
+    // The key's page, if it lies within the bytes.
+    fn page(&self, key: &PageNo) -> Result<&[u8], StoreFault>
         ensures { MatchResult result
-            (λ at. (at ≡ key.now.0 * self.now.page_size) × (at + self.now.page_size ≤ vec_len self.now.bytes))
+            (λ page. (page.now ≡ part_of self.now.page_size self.now.bytes.items key.now.0) × (key.now.0 * self.now.page_size + self.now.page_size ≤ vec_len self.now.bytes))
             (λ f. (f ≡ NotHeld) × (vec_len self.now.bytes < key.now.0 * self.now.page_size + self.now.page_size)) }
     {
         let at = key.0 as usize * self.page_size;
-        if at + self.page_size > self.bytes.len() {
-            return Err(StoreFault::NotHeld);
-        }
-        Ok(at)
+        self.bytes
+            .get(at..at + self.page_size)
+            .ok_or(StoreFault::NotHeld)
     }
 
     // Lays the page in the place of the key's.
     fn put(&mut self, key: &PageNo, page: &[u8])
-        requires { (key.now.0 * self.old.page_size + self.old.page_size ≤ vec_len self.old.bytes) × (length page.now ≡ self.old.page_size) }
+        requires held { key.now.0 * self.old.page_size + self.old.page_size ≤ vec_len self.old.bytes }
+        requires whole { length page.now ≡ self.old.page_size }
         ensures { meant_by self.new ≡ with_page (key.now.0 ∷ []) page.now (meant_by self.old) }
     {
         let at = key.0 as usize * self.page_size;
@@ -89,6 +88,7 @@ impl WorkFile {
     }
 }
 
+// stays: `holds` and `read` read as the bundle's do. A body in the trait would ask every store to have its pages as bytes.
 impl Store<PageNo> for WorkFile {
     ghost meant = { meant_by };
 
@@ -101,16 +101,14 @@ impl Store<PageNo> for WorkFile {
     }
 
     fn holds(&self, key: &PageNo) -> bool {
-        self.place(key).is_ok()
+        self.page(key).is_ok()
     }
 
     fn read(&mut self, key: &PageNo, buffer: &mut [u8]) -> Result<(), StoreFault> {
         if buffer.len() != self.page_size {
             return Err(StoreFault::BufferLength);
         }
-        let at = self.place(key)?;
-        let end = at + self.page_size;
-        buffer.copy_from_slice(&self.bytes.as_slice()[at..end]);
+        buffer.copy_from_slice(self.page(key)?);
         Ok(())
     }
 
@@ -118,7 +116,7 @@ impl Store<PageNo> for WorkFile {
         if page.len() != self.page_size {
             return Err(StoreFault::BufferLength);
         }
-        self.place(key)?;
+        self.page(key)?;
         self.put(key, page);
         Ok(())
     }

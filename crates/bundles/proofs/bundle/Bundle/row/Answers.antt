@@ -1,27 +1,26 @@
-use Rattle.std.proofs.Common.{◌≡◌, ℕ, Some, sym, ap, ◌∙◌, arith}
+use Rattle.std.proofs.Common.{◌≡◌, true, get_or, Some, sym, refl, ap, ◌∙◌, subst}
 use Rattle.std.specs.Option.{option_map}
-use Rattle.std.proofs.lemmas.List.FromFn.{length-map-range_with_len, get_or-map-range_with_len}
-use Rattle.std.proofs.lemmas.Option.{slice_get-get_or, slice_get_past}
-use Rattle.bundles.specs.Format.{Row, row_at, rows_in}
-use Rattle.bundles.specs.Bundles.{Listing, listed, unit_of}
-use Rattle.bundles.specs.declared.rows.AmountUnit.{AmountUnit}
+use Rattle.std.proofs.lemmas.Option.{slice_get-map, slice_get-get_or}
+use Rattle.bundles.specs.Format.{row_from, fit_row}
+use Rattle.bundles.specs.Bundles.{Listing, listed, listing_of, row_of}
+use Rattle.bundles.specs.declared.rows.Delivery.{Delivery}
+use Rattle.bundles.specs.declared.rows.AmountUnit.TheVariants.{Whole, Thousands}
+use Rattle.bundles.proofs.Passed.{fit_at}
 use Rattle.bundles.proofs.bundle.Bundle.row.Goals as goal
 
-pub returns-then-i-self : goal.returns-then-i-self
-returns-then-i-self c =
-    let part = c.args.self.now.rows.now in
-    let n = c.args.self.now.row_count in
-    sym (ap (option_map listed) (slice_get_past (rows_in part n) c.args.i (omega (arith, length-map-range_with_len (row_at part) 0 n))))
+pub checked_row-requires : goal.checked_row-requires
+checked_row-requires c =
+    let l = c.in_ok-row.ensures.lookup in
+    subst (λ s. fit_row (row_from s) ≡ true) (sym l.1) (fit_at _ _ _ c.args.self.now.good l.3.0)
 
-listing_is : (x : Row) (d : ℕ) (u : AmountUnit) (p : ℕ) → d ≡ x.delivery → u ≡ unit_of x.unit → p ≡ x.pages → ◌≡◌ {A = Listing} (record { number = d; unit = u; pages = p }) (listed x)
-listing_is x d u p a b e = λ i. record { number = a i; unit = b i; pages = e i }
+listing_row : (d : Delivery) → listing_of d ≡ listed (row_of d)
+listing_row d = elim d.unit as (λ u. listing_of (record d { unit = u }) ≡ listed (row_of (record d { unit = u }))) [ Whole ↦ refl | Thousands ↦ refl ]
 
 pub returns : goal.returns
 returns c =
-    let part = c.args.self.now.rows.now in
-    let n = c.args.self.now.row_count in
+    let rs = c.args.self.now.rows.now in
     let i = c.args.i in
-    let r = row_at part i in
-    let e = slice_get-get_or (rows_in part n) i r (omega (arith, length-map-range_with_len (row_at part) 0 n)) ∙ ap (λ (x : Row). Some x) (get_or-map-range_with_len (row_at part) 0 n i i r (omega arith) (omega arith)) in
-    let f = c.row_at-row.ensures in
-    ap (λ (x : Listing). Some x) (listing_is r _ _ _ f.delivery (c.unit_numbered.ensures ∙ ap unit_of f.unit) f.pages) ∙ sym (ap (option_map listed) e)
+    let row = c.in_ok-row.row.now in
+    let l = c.in_ok-row.ensures.lookup in
+    let here : listing_of c.checked_row.result ≡ listed (row_from (get_or rs i row)) = listing_row c.checked_row.result ∙ ap listed c.checked_row.ensures ∙ ap (λ s. listed (row_from s)) l.1 in
+    ap (λ (x : Listing). Some x) here ∙ sym (ap (option_map listed) (slice_get-map row_from rs i ∙ ap (option_map row_from) (slice_get-get_or rs i row l.3.0)))

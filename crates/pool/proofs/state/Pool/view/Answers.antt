@@ -1,24 +1,29 @@
-use Rattle.std.proofs.Common.{Err, refl, ap, ◌∙◌}
-use Rattle.std.proofs.lemmas.Result.{err_from_is_err_and}
+use Rattle.std.proofs.Common.{◌≤◌, length, sym, refl, arith, rules}
 use Rattle.pool.specs.Asked.{holding}
-use Rattle.pool.specs.Reading.{shown_by}
-use Rattle.pool.proofs.Owed.{fits_at, unfit_at, asked_fit, asked-misfit}
+use Rattle.pool.specs.Reading.{loan_in, shown_by}
+use Rattle.pool.proofs.Requests.{placed, view_denied, view_served}
+use Rattle.pool.proofs.Owed.{asked_denied, asked_misfit_by}
 use Rattle.pool.proofs.state.Pool.view.Goals as goal
 
 pub returns-in_err-fits : goal.returns-in_err-fits
 returns-in_err-fits g c =
-    let h = holding c.args.self.now c.args.frames.now c.args.cells.now (g.S.Store.meant c.args.store.now) in
-    let p = err_from_is_err_and c.from_residual.result c.from_residual.ensures.1 in
-    let u = unfit_at h c.page_size-size.result c.in_err-fits.field-0.0 c.page_size-size.ensures.size c.in_err-fits.ensures in
-    asked-misfit g.K.Key.meaning _ h u.number (shown_by c.from_residual.result) u.is (ap shown_by (p.1 ∙ ap Err p.2) ∙ u.denied_so)
+    let b = c.in_err-fits.ensures in asked_misfit_by g.K.Key.meaning _ _ shown_by _ c.from_residual.result (λ x. refl) c.from_residual.ensures.1 b.number b.layer
 
-pub look-requires : goal.look-requires
-look-requires g c =
-    let e = fits_at (holding c.args.self.now c.args.frames.now c.args.cells.now (g.S.Store.meant c.args.store.now)) c.page_size-size.result c.in_ok-fits.field-0 c.page_size-size.ensures.size c.in_ok-fits.ensures in
-    record { size = c.page_size-size.ensures.size; fits = e; ready = c.requires e }
+pub returns-then-not-is_good : goal.returns-then-not-is_good
+returns-then-not-is_good g c =
+    let e = sym c.in_ok-fits.ensures.number in asked_denied g.K.Key.meaning _ _ _ e c.requires (view_denied g.K.Key.meaning _ _ e (sym c.if-not-is_good.ensures))
+
+pub place-requires : goal.place-requires
+place-requires g c = omega (arith, (placed g.K.Key.meaning (holding c.args.self.now c.args.frames.now c.args.cells.now (g.S.Store.meant c.args.store.now)) _ _ c.page_size.ensures.size (sym c.in_ok-fits.ensures.number) c.requires (sym c.if-not-is_good.ensures)).small)
+
+pub slice_bounds-result-end : goal.slice_bounds-result-end
+slice_bounds-result-end g c =
+    let p = placed g.K.Key.meaning (holding c.args.self.now c.args.frames.now c.args.cells.now (g.S.Store.meant c.args.store.now)) _ _ c.page_size.ensures.size (sym c.in_ok-fits.ensures.number) c.requires (sym c.if-not-is_good.ensures) in
+    let q : c.place.result.end ≤ length c.args.frames.now = omega (arith, p.within, c.place.ensures.end) in search rules
 
 pub returns : goal.returns
 returns g c =
     let h = holding c.args.self.now c.args.frames.now c.args.cells.now (g.S.Store.meant c.args.store.now) in
-    let e = fits_at h c.page_size-size.result c.in_ok-fits.field-0 c.page_size-size.ensures.size c.in_ok-fits.ensures in
-    asked_fit g.K.Key.meaning _ h _ _ e (c.requires e) (c.requires e).stands c.look.ensures refl refl
+    let e = sym c.in_ok-fits.ensures.number in
+    let d = view_served g.K.Key.meaning h c.page_size.result (loan_in c.args.loan.now) c.page_size.ensures.size e (sym c.if-not-is_good.ensures) in
+    asked_denied g.K.Key.meaning _ h _ e c.requires (rw (c.place.ensures.start, c.place.ensures.end) d)

@@ -1,7 +1,7 @@
-use Rattle.std.proofs.Common.{◌≡◌, ◌+◌, ◌*◌, ◌≤◌, length, vec_items, ap, ◌∙◌, arith}
-use Rattle.stores.specs.Parts.{laid}
+use Rattle.std.proofs.Common.{◌*◌, ◌∙◌, ap, arith}
+use Rattle.std.proofs.lemmas.List.{with_items_is}
 use Rattle.stores.specs.Files.{file_of}
-use Rattle.stores.proofs.Bytes.{length-laid, refills}
+use Rattle.stores.specs.Parts.{laid}
 use Rattle.stores.proofs.Filed.{file_written}
 use Rattle.stores.proofs.file.WorkFile.put.Goals as goal
 
@@ -11,10 +11,5 @@ returns c =
     let p = w.page_size in
     let n = c.args.key.now.0 in
     let page = c.args.page.now in
-    let old = vec_items w.bytes in
-    let inside : n * p + p ≤ length old = omega (arith, c.requires.0, w.bytes.ok.0) in
-    let whole : length page ≡ p = c.requires.1 in
-    let l : c.lay.new.bytes ≡ laid (n * p) page old = c.lay.ensures ∙ ap (laid (n * p) page) c.as_mut_slice.ensures.value in
-    let long : length c.lay.new.bytes ≡ length old = ap length l ∙ length-laid (n * p) page old (omega arith) in
-    let r = refills old c.lay.new.bytes w.bytes.len (omega (arith, long, w.bytes.ok.0)) (omega (arith, w.bytes.ok.0)) in
-    ap (file_of p) (r ∙ l) ∙ file_written p n page old inside whole
+    ap (file_of p) (with_items_is w.bytes c.lay.new.bytes (omega arith) ∙ c.lay.ensures ∙ ap (laid (n * p) page) c.as_mut_slice.ensures.value)
+    ∙ file_written p n page w.bytes.items (omega arith) c.requires.whole

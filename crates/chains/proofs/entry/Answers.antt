@@ -1,6 +1,0 @@
-use Rattle.chains.specs.Shape.{shape_of}
-use Rattle.chains.proofs.entry.Goals as goal
-
-pub returns : goal.returns
-unfolding shape_of
-returns g c = c.entry.ensures
