@@ -103,7 +103,8 @@ impl Bundle<'_> {
     }
 }
 
-// stays: `holds` and `read` read as the work file's do. A body in the trait would ask every store to have its pages as bytes.
+// stays: `holds` and `read` read as the work file's do. A body in the trait would ask every store to have its pages as bytes,
+// and a function for both would be as long as what it replaces.
 impl Store<DeliveryKey> for Bundle<'_> {
     ghost meant = { meant_by };
 

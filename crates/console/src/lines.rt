@@ -37,7 +37,7 @@ impl fmt::Display for DeliveryLine {
         write!(
             f,
             "delivery {}, {}, {} pages",
-            delivery.number.0, delivery.unit, delivery.pages
+            delivery.number, delivery.unit, delivery.pages
         )
     }
 }

@@ -17,7 +17,8 @@ use records::Entry;
 use std::alloc::{AllocError, Global};
 use stores::Store;
 
-// stays: frame bytes, cells and store are lent to each call, as they are to the pool's.
+// stays: frame bytes, cells and store are lent to each call, as they are to the pool's. What is supposed of them is one name,
+// `Supposed`, and no fact of a type, since no value has them all.
 impl Desk {
     // Borrows a key; the loan goes into a new hand.
     fn borrow<K: Key + Copy, S: Store<K>>(

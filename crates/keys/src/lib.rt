@@ -52,6 +52,16 @@ impl From<ParseIntError> for NotAKey {
     }
 }
 
+/// A delivery's number is written in decimal digits: `7`.
+impl fmt::Display for DeliveryNo {
+    ghost output = { λ d. Some (decimal d.0) };
+
+    fn fmt<W: fmt::Write>(&self, f: &mut fmt::Formatter<W>) -> fmt::Result {
+        let number = self.0;
+        write!(f, "{number}")
+    }
+}
+
 /// A delivery's number is read from its decimal digits: `7`.
 impl FromStr for DeliveryNo {
     type Err = NotAKey;
@@ -88,8 +98,7 @@ impl fmt::Display for PageNo {
     ghost output = { λ k. Some (decimal k.0) };
 
     fn fmt<W: fmt::Write>(&self, f: &mut fmt::Formatter<W>) -> fmt::Result {
-        let page = self.0;
-        write!(f, "{page}")
+        write!(f, "{}", self.0)
     }
 }
 
@@ -137,9 +146,7 @@ impl fmt::Display for DeliveryKey {
     ghost output = { λ k. Some (decimal k.delivery.0 ++ (codes "/" ++ decimal k.page.0)) };
 
     fn fmt<W: fmt::Write>(&self, f: &mut fmt::Formatter<W>) -> fmt::Result {
-        let delivery = self.delivery.0;
-        let page = self.page.0;
-        write!(f, "{delivery}/{page}")
+        write!(f, "{}/{}", self.delivery, self.page)
     }
 }
 

@@ -99,7 +99,7 @@ impl<K: Key + Copy> State<K> {
         steps
     }
 
-    // stays: a place and the entry there. A struct of the two stood here before, and each of its users took it apart.
+    // stays: a place and the entry there. A struct of the two stood here before, and the three hands took it apart again.
     fn promote(&mut self, at: usize, e: Entry<K>)
         requires found { Found K.Key.meaning free self.old.ring.items at e }
         ensures step { machine_of K.Key.meaning self.new ≡ rules.promote self.old.frames (entry_of K.Key.meaning e) (machine_of K.Key.meaning self.old) }
@@ -163,6 +163,7 @@ impl<K: Key + Copy> State<K> {
         ensures run { rules.ColdRun self.old.frames (machine_of K.Key.meaning self.old) (steps_of result.steps) (entry_of K.Key.meaning result.victim) (machine_of K.Key.meaning self.new) }
         ensures kept { Keeps self.old self.new }
     {
+        // stays: it is steps that are counted here and in the runs, by their kind, and no place in a list
         let mut cold = 0;
         let mut hot = 0;
         loop {

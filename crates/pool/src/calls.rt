@@ -19,9 +19,10 @@ use records::{Entry, Report};
 use ring::by_key;
 use stores::{Store, StoreFault, lay};
 
-// stays: frames, cells and store are parameters of each call. Memory is lent to each call, and each takes it in its own way:
-// `borrow` all three as `&mut`, `view` all three as `&`, the others some. One struct `Lent { frames: &mut [u8], cells: &mut [..],
-// store: &mut S }` would ask `&mut` of every caller, and three clauses more of each method, that a reference keeps its name.
+// stays: frames, cells and store are parameters of each call. Memory is lent to each, and each takes it in its own way:
+// `borrow` all three as `&mut`, `view` all three as `&`, the others some. One struct `Lent { frames: &mut [u8], cells: &mut
+// [..], store: &mut S }` would ask `&mut` of every caller, and three clauses more of each method, that a reference keeps its
+// name.
 impl Pool {
     // 3 and 4: is the lent memory of this pool's sizes?
     fn fits<K: Key, S: Store<K>>(
@@ -157,7 +158,8 @@ impl Pool {
     {
         self.fits(frames, cells, store)?;
         let mut written = 0;
-        // stays: a `for` over frame numbers. `map` and `sum` would need a closure that changes pool, cells and store at once.
+        // stays: a `for` over frame numbers. With `map` and `sum` a closure would change pool, cells and store, which is more to
+        // read, and no place in a list is counted.
         for f in 0..self.frames {
             written += self.flush_frame(frames, cells, store, FrameNo(f));
         }

@@ -34,6 +34,7 @@ pub enum PoolFault {
 
 impl PoolFault {
     /// The number of the refusal.
+    // stays: a `match` and no discriminants, since a store's fault brings its own number.
     pub fn number(&self) -> u8
         ensures { result ≡ number self.now }
     {

@@ -1,6 +1,6 @@
 //! Pages between frames and store: a victim's page out of its frame, and a key's page into a frame.
 
-ghost use Rattle.std.specs.Prelude.{◌≡◌, ◌+◌, ◌*◌, ◌^◌, ◌<◌, ◌≤◌, true, length};
+ghost use Rattle.std.specs.Prelude.{◌≡◌, ◌+◌, ◌*◌, ◌^◌, ◌<◌, true, length};
 ghost use Rattle.stores.specs.Meaning.{held, page_of, with_page};
 ghost use Rattle.stores.specs.Parts.{part_of, laid};
 ghost use Rattle.pool.specs.Moving.{HasPart, Takes, sent_by, TakesAfter, sent_after, filled_after};

@@ -18,8 +18,8 @@ pub struct Pool {
     pub(crate) ring: Ring,
 }
 
-/// A loan: the right to look at the page in a frame, elsewhere called a pin. Only a granted borrow makes one, nothing doubles it,
-/// and it is not `Drop`: whoever has one returns it.
+/// A loan: the right to look at the page in a frame, elsewhere called a pin. Only a granted borrow makes one, nothing
+/// doubles it, and it is not `Drop`: whoever has one returns it.
 pub struct Loan {
     pub(crate) frame: FrameNo,
     pub(crate) pool: PoolNo,

@@ -25,8 +25,8 @@ impl fmt::Display for Steps {
     }
 }
 
-/// A frame for a page: the frame, the victim that left it, and the steps. `V` is what is told of the victim, or an `Option` of that where
-/// there may be none.
+/// A frame for a page: the frame, the victim that left it, and the steps. `V` is what is told of the victim, or an `Option`
+/// of that where there may be none.
 #[derive(Clone, Copy, PartialEq, Eq, Debug)]
 pub struct Room<V> {
     pub frame: FrameNo,

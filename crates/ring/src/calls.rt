@@ -7,7 +7,7 @@ ghost use Rattle.std.specs.List.{ContainsAt};
 ghost use Rattle.machine.specs.Entry.{first, named, lies_in};
 ghost use Rattle.machine.specs.Borrow as rules;
 ghost use Rattle.machine.specs.Facts.{Mid, Well};
-ghost use Rattle.records.specs.Reading.{found_of, number_of};
+ghost use Rattle.records.specs.Reading.{found_of};
 ghost use Rattle.ring.specs.Model.{machine_of, Sound, CanBorrow};
 ghost use Rattle.ring.specs.Answering.{answer_of, Written};
 

@@ -77,6 +77,7 @@ impl Ring {
         ensures run { Frees K.Key.meaning m (machine_of K.Key.meaning cells.old self.old) result (machine_of K.Key.meaning cells.new self.new) }
         ensures facts { Mid m (Some result.frame.0) (machine_of K.Key.meaning cells.new self.new) }
     {
+        // stays: it is steps that are counted here and in the runs, by their kind, and no place in a list
         let mut steps = Steps::default();
         loop {
             match self.cold_step(cells, m) {

@@ -10,13 +10,12 @@
 ghost use Rattle.std.specs.Prelude.{◌≡◌, ℕ, List, ◌+◌, ◌^◌, ◌<◌, true, false, [], ◌∷◌, ◌++◌, length, IfOk, Some, None};
 ghost use Rattle.std.specs.List.{ContainsAt};
 ghost use Rattle.std.specs.Iterator.{YieldsFirst, item_count};
-ghost use Rattle.chains.specs.Orders.{Misses};
 ghost use Rattle.chains.specs.declared.cell.Chain.TheVariants.{Ring, Cold, Test, Free};
 ghost use Rattle.chains.specs.Shape.{shape_of, Intact};
 ghost use Rattle.keys.specs.Same.{same_list};
 ghost use Rattle.records.specs.Questions.{cold_resident, remembered, idle, evictable, lies_in};
 ghost use Rattle.rows.specs.declared.Row.{Row};
-ghost use Rattle.rows.specs.Rows.{counted, plus, minus, SumsFit, NoneMore, has_entries, rows_on, ahead, OnWay, number, without_cell, cells_of, entries_of, rows_in, first_row, first_by, Stands, Members, Kept, Unnamed, Fits, belongs, Placed, noted, refiled, rewritten, replaced};
+ghost use Rattle.rows.specs.Rows.{counted, plus, minus, SumsFit, NoneMore, has_entries, rows_on, ahead, OnWay, number, without_cell, entries_of, rows_in, first_row, first_by, Stands, Members, Kept, Unnamed, Fits, belongs, Placed, noted, refiled, rewritten, replaced};
 
 use chains::{Cell, Chain, Chains};
 use keys::{CellNo, FrameNo, Key};

@@ -12,6 +12,7 @@ mod file_tests;
 use stores::StoreFault;
 
 // The number of a refusal; nothing where all was granted.
+// stays: numbers, which are what the tests want by the rules
 #[cfg(test)]
 fn refusal(answer: Result<(), StoreFault>) -> Option<u8> {
     answer.err().map(|fault| fault.number())

@@ -38,8 +38,8 @@ pub enum Layer {
 
 impl StoreFault {
     /// The number of the refusal.
-    // stays: a `match` and no discriminants. The pool's faults, which carry a store's, need one, and an edit that gives a fault the
-    // number of another has to compile.
+    // stays: a `match` and no discriminants. The pool's faults, which carry a store's, need one, and an edit that gives a
+    // fault the number of another has to compile.
     pub fn number(&self) -> u8
         ensures { result ≡ number self.now }
     {

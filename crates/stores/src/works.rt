@@ -88,7 +88,8 @@ impl WorkFile {
     }
 }
 
-// stays: `holds` and `read` read as the bundle's do. A body in the trait would ask every store to have its pages as bytes.
+// stays: `holds` and `read` read as the bundle's do. A body in the trait would ask every store to have its pages as bytes,
+// and a function for both would be as long as what it replaces.
 impl Store<PageNo> for WorkFile {
     ghost meant = { meant_by };
 
