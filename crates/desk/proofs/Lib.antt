@@ -1,2 +1,3 @@
 pub mod Handling
 pub mod Steps
+pub mod Lists

@@ -1,5 +1,5 @@
-//! A desk: a pool whose loans are kept in hands. It serves one order at a time; the call that serves a list of orders is not
-//! built yet.
+//! A desk: a pool whose loans are kept in hands. It serves one order, or a list of them one after another, and
+//! the promise over every history stands after each.
 
 #![tactic(auto)]
 
@@ -9,6 +9,6 @@ mod orders;
 mod serving;
 mod state;
 
-pub use orders::{Ask, Hand, Lent, Order, Reply, Sizes};
+pub use orders::{Ask, Hand, Lent, Order, Replies, Reply, Sizes};
 pub use serving::blank_cells;
 pub use state::Desk;

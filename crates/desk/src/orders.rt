@@ -3,6 +3,7 @@
 use keys::FrameNo;
 use pool::{PoolFault, PoolNo};
 use records::Report;
+use std::alloc::AllocError;
 
 /// The number of a hand: the n-th granted borrow of the desk has hand n, counted from 0.
 #[derive(Clone, Copy, PartialEq, Eq, Debug)]
@@ -57,4 +58,13 @@ pub enum Reply<K> {
     Refused(PoolFault),
     /// The hand has no loan: it was returned, or never granted. No call was made.
     NoLoan,
+}
+
+/// What came of a list of orders.
+#[derive(PartialEq, Eq, Debug, Drop)]
+pub struct Replies<K> {
+    /// A reply for each order that was served, in their order.
+    pub list: Vec<Reply<K>>,
+    /// Whether all were served, or memory ran out before.
+    pub end: Result<(), AllocError>,
 }

@@ -1,11 +1,11 @@
-//! The desk serves one order.
+//! The desk serves one order, or a list of them.
 
-ghost use Rattle.std.specs.Prelude.{◌≡◌, IfOk, None, vec_len, MatchResult, ◌≢◌};
+ghost use Rattle.std.specs.Prelude.{◌≡◌, [], length, IfOk, None, vec_len, MatchResult, ◌≢◌};
 ghost use Rattle.pool.specs.Asked.{holding, sizes};
 ghost use Rattle.desk.specs.Reading.{desk_of};
-ghost use Rattle.desk.specs.Serving.{AtDesk, Ordered, Same, Turned, Untouched};
+ghost use Rattle.desk.specs.Serving.{AtDesk, Ordered, Same, Served, Turned, Untouched};
 
-use crate::orders::{Ask, Order, Reply, Sizes};
+use crate::orders::{Ask, Order, Replies, Reply, Sizes};
 use crate::state::Desk;
 use chains::Cell;
 use keys::Key;
@@ -66,5 +66,48 @@ impl Desk {
         } else {
             self.call_with(heap, store, &order.ask, lent)
         }
+    }
+
+    // The orders one after another, with a reply for each, until the list or the memory is at its end.
+    fn serve_each<K: Key + Copy, S: Store<K>>(
+        &mut self,
+        heap: Global,
+        frames: &mut [u8],
+        cells: &mut [Cell<Entry<K>>],
+        store: &mut S,
+        orders: &[Order<K>],
+        replies: &mut Vec<Reply<K>>,
+    ) -> Result<(), AllocError>
+        requires at { AtDesk K.Key.meaning (holding self.old.pool frames.old cells.old (S.Store.meant store.old)) self.old.hands.items }
+        requires none { replies.old.items ≡ [] }
+        ensures at { AtDesk K.Key.meaning (holding self.new.pool frames.new cells.new (S.Store.meant store.new)) self.new.hands.items }
+        ensures served { Served K.Key.meaning orders.now (desk_of K.Key.meaning (holding self.old.pool frames.old cells.old (S.Store.meant store.old)) self.old.hands.items) replies.new.items (desk_of K.Key.meaning (holding self.new.pool frames.new cells.new (S.Store.meant store.new)) self.new.hands.items) }
+        ensures whole { IfOk result (λ _. vec_len replies.new ≡ length orders.now) }
+    {
+        for order in orders {
+            replies.reserve(1)?;
+            let reply = self.serve(heap, frames, cells, store, order)?;
+            replies.push_reserved(reply);
+        }
+        Ok(())
+    }
+
+    /// A list of orders, one after another. If memory runs out, those before were served, and the reply for each is there.
+    pub fn serve_all<K: Key + Copy, S: Store<K>>(
+        &mut self,
+        heap: Global,
+        frames: &mut [u8],
+        cells: &mut [Cell<Entry<K>>],
+        store: &mut S,
+        orders: &[Order<K>],
+    ) -> Replies<K>
+        requires { AtDesk K.Key.meaning (holding self.old.pool frames.old cells.old (S.Store.meant store.old)) self.old.hands.items }
+        ensures at { AtDesk K.Key.meaning (holding self.new.pool frames.new cells.new (S.Store.meant store.new)) self.new.hands.items }
+        ensures served { Served K.Key.meaning orders.now (desk_of K.Key.meaning (holding self.old.pool frames.old cells.old (S.Store.meant store.old)) self.old.hands.items) result.list.items (desk_of K.Key.meaning (holding self.new.pool frames.new cells.new (S.Store.meant store.new)) self.new.hands.items) }
+        ensures whole { IfOk result.end (λ _. vec_len result.list ≡ length orders.now) }
+    {
+        let mut list = Vec::new(heap);
+        let end = self.serve_each(heap, frames, cells, store, orders, &mut list);
+        Replies { list, end }
     }
 }
