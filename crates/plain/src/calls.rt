@@ -9,9 +9,10 @@ ghost use Rattle.plain.specs.Hands.{machine_of, Sound, Keeps};
 ghost use Rattle.plain.specs.Calls.{recalled_if, Away};
 
 use crate::entries;
+use crate::entries::raise;
 use crate::hands::State;
 use keys::{FrameNo, Key};
-use records::{Entry, Granted, Outcome, Refusal, Report, Steps, raise};
+use records::{Entry, Granted, Outcome, Refusal, Report, Steps};
 
 impl<K: Key + Copy> State<K> {
     /// Whether no frame is unused and every resident page has a loan.

@@ -1,12 +1,50 @@
-//! What a hand or a call makes of an entry.
+//! The tests of an entry and the cold allocation, and what a hand or a call makes of an entry.
 
 ghost use Rattle.std.specs.Prelude.{◌≡◌, ◌<◌};
-ghost use Rattle.machine.specs.Hands.{turned, turned_cold, tested, left, promoted, retested};
+ghost use Rattle.machine.specs.Hands.{turned, turned_cold, tested, left, promoted, retested, lowered, raised};
 ghost use Rattle.machine.specs.Borrow.{entered, lent, repaid, marking};
+ghost use Rattle.machine.specs.Entry.{idle, lies_in};
 ghost use Rattle.records.specs.Reading.{entry_of, listed};
 
 use keys::{FrameNo, Key};
-use records::{Entry, lower};
+use records::Entry;
+
+// stays: the tests and the two changes of the cold allocation stand here as they do in `records`, for the ring. A slip in one
+// text has to show where the simulator is compared with the ring.
+
+/// Whether an entry is resident without a loan.
+pub(crate) fn is_idle<K: Key>(e: &Entry<K>) -> bool
+    ensures { result ≡ idle (entry_of K.Key.meaning e.now) }
+{
+    match e.frame {
+        Some(_) => e.loans == 0,
+        None => false,
+    }
+}
+
+/// Whether an entry's page lies in a frame.
+pub(crate) fn is_in<K: Key>(e: &Entry<K>, wanted: FrameNo) -> bool
+    ensures { result ≡ lies_in wanted.0 (entry_of K.Key.meaning e.now) }
+{
+    match e.frame {
+        Some(f) => wanted == f,
+        None => false,
+    }
+}
+
+/// The cold allocation, lowered.
+pub(crate) fn lower(c: u32) -> u32
+    ensures { result ≡ lowered c }
+{
+    if 1 < c { c - 1 } else { c }
+}
+
+/// The cold allocation, raised.
+pub(crate) fn raise(m: u32, c: u32) -> u32
+    ensures { result ≡ raised m c }
+{
+    if c < m.saturating_sub(1) { c + 1 } else { c }
+}
 
 /// What the hot step puts at the head for the entry at the tail.
 pub(crate) fn after_hot_step<K: Key + Copy>(e: Entry<K>) -> Option<Entry<K>>

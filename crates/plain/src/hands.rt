@@ -8,9 +8,10 @@ ghost use Rattle.records.specs.Reading.{entry_of, steps_of};
 ghost use Rattle.plain.specs.Lists.{Found};
 ghost use Rattle.plain.specs.Hands.{machine_of, Sound, Keeps, Turned, Roomed};
 
+use crate::entries::{lower, raise};
 use crate::{entries, lists};
 use keys::{FrameNo, Key};
-use records::{Entry, Room, Steps, lower, raise};
+use records::{Entry, Room, Steps};
 use std::ops::ControlFlow;
 
 /// The ring from the tail to the head, the cold allocation, the number of frames in use, and how many there are.

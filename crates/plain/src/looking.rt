@@ -6,6 +6,7 @@ ghost use Rattle.machine.specs.Entry.{is_hot, remembered, idle, free, named, lie
 ghost use Rattle.records.specs.Reading.{entry_of};
 ghost use Rattle.plain.specs.Lists.{place, tally};
 
+use crate::entries::{is_idle, is_in};
 use crate::hands::State;
 use keys::{FrameNo, Key};
 
@@ -21,14 +22,14 @@ impl<K: Key> State<K> {
     pub(crate) fn place_in(&self, frame: FrameNo) -> Option<usize>
         ensures { result ≡ place K.Key.meaning (lies_in frame.0) self.now.ring.items }
     {
-        self.ring.iter().position(|e| e.lies_in(frame))
+        self.ring.iter().position(|e| is_in(e, frame))
     }
 
     /// The place of the candidate: the first entry that is resident and cold without a loan.
     pub(crate) fn candidate(&self) -> Option<usize>
         ensures { result ≡ place K.Key.meaning free self.now.ring.items }
     {
-        self.ring.iter().position(|e| !e.hot && e.is_idle())
+        self.ring.iter().position(|e| !e.hot && is_idle(e))
     }
 
     /// The place of the first entry with the test mark.
@@ -49,13 +50,13 @@ impl<K: Key> State<K> {
     pub(crate) fn remembered(&self) -> usize
         ensures { result ≡ tally K.Key.meaning remembered self.now.ring.items }
     {
-        self.ring.iter().filter(|e| e.is_remembered()).count()
+        self.ring.iter().filter(|e| e.frame.is_none()).count()
     }
 
     /// Whether some page is resident without a loan.
     pub(crate) fn has_idle(&self) -> bool
         ensures { result ≡ list_any (λ e. idle (entry_of K.Key.meaning e)) self.now.ring.items }
     {
-        self.ring.iter().any(|e| e.is_idle())
+        self.ring.iter().any(|e| is_idle(e))
     }
 }

@@ -54,13 +54,32 @@ impl<K: Key> From<&Entry<K>> for Letters {
     }
 }
 
+impl Letters {
+    /// The letters as text.
+    pub fn text(self) -> &'static str
+        ensures { result.now ≡ spelled self }
+    {
+        match (self.letter, self.test, self.bit) {
+            (Letter::Hot, false, false) => "H",
+            (Letter::Hot, false, true) => "H*",
+            (Letter::Hot, true, false) => "Ht",
+            (Letter::Hot, true, true) => "Ht*",
+            (Letter::Cold, false, false) => "C",
+            (Letter::Cold, false, true) => "C*",
+            (Letter::Cold, true, false) => "Ct",
+            (Letter::Cold, true, true) => "Ct*",
+            (Letter::Remembered, false, false) => "N",
+            (Letter::Remembered, false, true) => "N*",
+            (Letter::Remembered, true, false) => "Nt",
+            (Letter::Remembered, true, true) => "Nt*",
+        }
+    }
+}
+
 impl fmt::Display for Letters {
     ghost output = { λ l. Some (spelled l) };
 
     fn fmt<W: fmt::Write>(&self, f: &mut fmt::Formatter<W>) -> fmt::Result {
-        let letter = self.letter;
-        let test = if self.test { "t" } else { "" };
-        let bit = if self.bit { "*" } else { "" };
-        write!(f, "{letter}{test}{bit}")
+        f.write_str(self.text())
     }
 }

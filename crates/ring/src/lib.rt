@@ -25,6 +25,7 @@ use keys::Key;
 pub use over::RingOver;
 use records::Entry;
 use rows::Table;
+pub use runs::Freed;
 use std::alloc::{AllocError, Global};
 
 /// A ring's plain numbers: those of its rows, the cold allocation c, and the number u of frames in use.

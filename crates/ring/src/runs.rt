@@ -14,6 +14,9 @@ use chains::Cell;
 use keys::{FrameNo, Key};
 use records::{Entry, Room, Steps};
 
+/// What a cold run frees: a frame, with the page that left it and the steps.
+pub type Freed<K> = Room<Victim<K>>;
+
 impl Ring {
     /// Whether more than m - c entries are hot.
     #[tactic(auto, using(crate::proofs::States::hots_are), unfolding(crate::specs::Model::machine_of))]
@@ -66,11 +69,7 @@ impl Ring {
 
     /// A cold run: hot steps while there is no candidate, then a cold step with the run that follows it, until a frame is
     /// freed. Some resident page has no loan, so one is.
-    pub fn cold_run<K: Key + Copy>(
-        &mut self,
-        cells: &mut [Cell<Entry<K>>],
-        m: u32,
-    ) -> Room<Victim<K>>
+    pub fn cold_run<K: Key + Copy>(&mut self, cells: &mut [Cell<Entry<K>>], m: u32) -> Freed<K>
         requires sound { Sound K.Key.meaning None m cells.old self.old }
         requires unlent { 1 ≤ count idle (machine_of K.Key.meaning cells.old self.old).ring }
         ensures stands { Stands cells.new self.new.table }
