@@ -39,18 +39,28 @@ impl<K: Key> State<K> {
         self.ring.iter().position(|e| e.test)
     }
 
+    // stays: `hot` and `remembered` add 0 or 1 for each entry. `filter` and `count` ask a question for each, which took a quarter
+    // more of a whole borrow in a ring of four frames.
     /// How many entries are hot.
     pub(crate) fn hot(&self) -> usize
         ensures { result ≡ tally K.Key.meaning is_hot self.now.ring.items }
     {
-        self.ring.iter().filter(|e| e.hot).count()
+        let mut n = 0;
+        for e in &self.ring {
+            n += usize::from(e.hot);
+        }
+        n
     }
 
     /// How many entries are remembered.
     pub(crate) fn remembered(&self) -> usize
         ensures { result ≡ tally K.Key.meaning remembered self.now.ring.items }
     {
-        self.ring.iter().filter(|e| e.frame.is_none()).count()
+        let mut n = 0;
+        for e in &self.ring {
+            n += usize::from(e.frame.is_none());
+        }
+        n
     }
 
     /// Whether some page is resident without a loan.
