@@ -1,9 +1,9 @@
 -- The loops over rows: each turn passes one row, and what is asked of all rows is asked of those that are left.
-use Rattle.std.proofs.Common.{◌≡◌, ℕ, zero, suc, ◌+◌, ◌*◌, ◌<◌, ◌≤◌, Bool, true, false, not, ◌&&◌, ◌||◌, eqb, leb, List, [], ◌∷◌, ◌++◌, length, get_or, take, drop, sym, refl, ap, ◌∙◌, arith}
+use Rattle.std.proofs.Common.{◌≡◌, ℕ, zero, suc, ◌+◌, ◌*◌, ◌<◌, ◌≤◌, Bool, true, false, not, ◌&&◌, ◌||◌, eqb, leb, List, [], ◌∷◌, ◌++◌, length, get_or, take, drop, Some, sym, refl, ap, ◌∙◌, arith}
 use Rattle.std.specs.List.{list_any, list_all}
 use Rattle.std.proofs.lemmas.List.{take_more, at_drop_more}
-use Rattle.std.proofs.lemmas.Bool.{and_left, and_right, and_parts, and_from, leb-true, not_from_true, not_from_false}
-use Rattle.bundles.specs.Format.{Row, two, row_from, rows_from, listed_in, fit_row, good_row, good_after, good_rows, pages_in}
+use Rattle.std.proofs.lemmas.Bool.{and_left, and_right, and_parts, and_from, leb-true, not_from_true, not_from_false, cond-true, cond-false, eq-eqb, ne_eqb}
+use Rattle.bundles.specs.Format.{Row, two, four, row_from, rows_from, listed_in, fit_row, good_row, good_after, good_rows, pages_in}
 use Rattle.bundles.specs.Contents.{found}
 
 rows_push : (rs before : List (List ℕ)) (s : List ℕ) → rs ≡ before ++ (s ∷ []) → rows_from rs ≡ rows_from before ++ (row_from s ∷ [])
@@ -102,3 +102,24 @@ added_again rs i sum r l e k x =
 pub record Sought (d : ℕ) (rows left : List Row) (before : ℕ) : Type 0 where
   pub same : found d 0 rows ≡ found d before left
   pub small : before + length left * 1048576 ≤ 268435456
+
+-- the next row is another delivery's
+pub sought_past : (d : ℕ) (rs : List (List ℕ)) (i before : ℕ) → i < length rs → good_rows (rows_from rs) ≡ true → (two (get_or rs i []) 0 ≡ d → ⊥) →
+    Sought d (rows_from rs) (rows_from (drop i rs)) before → Sought d (rows_from rs) (rows_from (drop (i + 1) rs)) (before + four (get_or rs i []) 3)
+sought_past d rs i before l g h x =
+    let s = get_or rs i [] in
+    let few = fit_few (row_from s) (fit_at rs i [] g l) in
+    let less : length (rows_from (drop i rs)) ≡ suc (length (rows_from (drop (i + 1) rs))) = at_drop_more (λ u. length (rows_from u)) rs i [] l in
+    record {
+      same = x.same ∙ at_drop_more (λ u. found d before (rows_from u)) rs i [] l
+          ∙ cond-false (eqb (two s 0) d) (Some (record { before = before; row = row_from s })) (found d (before + four s 3) (rows_from (drop (i + 1) rs))) (ne_eqb (two s 0) d h);
+      small = let k = x.small in omega arith;
+    }
+
+-- the next row is the delivery's
+pub sought_at : (d : ℕ) (rs : List (List ℕ)) (i before : ℕ) → i < length rs → two (get_or rs i []) 0 ≡ d →
+    Sought d (rows_from rs) (rows_from (drop i rs)) before → found d 0 (rows_from rs) ≡ Some (record { before = before; row = row_from (get_or rs i []) })
+sought_at d rs i before l h x =
+    let s = get_or rs i [] in
+    x.same ∙ at_drop_more (λ u. found d before (rows_from u)) rs i [] l
+    ∙ cond-true (eqb (two s 0) d) (Some (record { before = before; row = row_from s })) (found d (before + four s 3) (rows_from (drop (i + 1) rs))) (eq-eqb (two s 0) d h)

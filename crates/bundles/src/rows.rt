@@ -3,7 +3,7 @@
 ghost use Rattle.std.specs.Prelude.{◌≡◌, ℕ, ◌+◌, ◌*◌, ◌<◌, ◌≤◌, ◌==◌, true, false, length, Some, MatchResult};
 ghost use Rattle.std.specs.List.{list_any};
 ghost use Rattle.stores.specs.declared.faults.StoreFault.TheVariants.{Row as RowFault};
-ghost use Rattle.bundles.specs.Format.{two, row_from, rows_from, fit_row, good_rows, pages_in};
+ghost use Rattle.bundles.specs.Format.{two, four, row_from, rows_from, fit_row, good_rows, pages_in};
 ghost use Rattle.bundles.specs.Bundles.{unit_word, unit_number, UnitGives, RowGives, row_of};
 
 use keys::DeliveryNo;
@@ -69,11 +69,19 @@ pub struct Delivery {
     pub pages: u32,
 }
 
-// The number of a row's delivery.
-fn number_in(row: &[u8; 7]) -> DeliveryNo
+/// The number of a row's delivery.
+pub(crate) fn number_in(row: &[u8; 7]) -> DeliveryNo
     ensures { result.0 ≡ two row.now 0 }
 {
     DeliveryNo(u16::from_le_bytes([row[0], row[1]]))
+}
+
+/// How many pages a row counts.
+pub(crate) fn page_count_in(row: &[u8; 7]) -> u32
+    ensures { result ≡ four row.now 3 }
+{
+    let [_, _, _, p0, p1, p2, p3] = *row;
+    u32::from_le_bytes([p0, p1, p2, p3])
 }
 
 /// A delivery out of the bytes of its row, if unit and page count are as they must be.
@@ -83,9 +91,8 @@ impl TryFrom<[u8; 7]> for Delivery {
     ghost try_from_gives = { RowGives };
 
     fn try_from(row: [u8; 7]) -> Result<Self, StoreFault> {
-        let [_, _, unit, p0, p1, p2, p3] = row;
-        let unit = AmountUnit::try_from(unit)?;
-        let pages = u32::from_le_bytes([p0, p1, p2, p3]);
+        let unit = AmountUnit::try_from(row[2])?;
+        let pages = page_count_in(&row);
         if pages > MOST_PAGES {
             return Err(StoreFault::Row);
         }

@@ -2,7 +2,7 @@
 
 use crate::making::{Dice, Layout, Row};
 use crate::tally::{Answer, Tally};
-use bundles::{Bundle, Delivery};
+use bundles::{AmountUnit, Bundle, Delivery};
 use keys::{DeliveryKey, DeliveryNo, Key};
 use plain_reader::{PlainBundle, PlainFault, PlainKey, PlainRow};
 use std::alloc::{AllocError, Global};
@@ -11,6 +11,15 @@ use stores::{Store, StoreFault};
 
 /// What a buffer holds before a read.
 const UNTOUCHED: u8 = 0xEE;
+
+// The unit as the bytes have it.
+// stays: a `match` of its own, so that the conversion of `bundles` does not answer for itself.
+fn unit_number(unit: AmountUnit) -> u64 {
+    match unit {
+        AmountUnit::Whole => 0,
+        AmountUnit::Thousands => 1,
+    }
+}
 
 /// A comparison of the readers over strings that are made with the dice, with the counts of the kind that runs and those of
 /// all kinds that ran.
@@ -139,8 +148,7 @@ impl Opened<'_, '_> {
         self.tally.same(plain.is_some(), proved.is_some());
         if let (Some(row), Some(delivery)) = (plain, proved) {
             self.tally.same(row.delivery, u64::from(delivery.number.0));
-            self.tally
-                .same(row.unit, u64::from(u8::from(delivery.unit)));
+            self.tally.same(row.unit, unit_number(delivery.unit));
             self.tally.same(row.pages, u64::from(delivery.pages));
         }
     }
@@ -151,9 +159,7 @@ impl Opened<'_, '_> {
         let row = listed.ok_or(StoreFault::NotHeld);
         self.tally.same(
             row.map(|row| row.unit),
-            self.bundle
-                .unit(DeliveryNo(delivery))
-                .map(|unit| u64::from(u8::from(unit))),
+            self.bundle.unit(DeliveryNo(delivery)).map(unit_number),
         );
         self.tally.same(
             row.map(|row| row.pages),

@@ -1,7 +1,6 @@
 -- The loops that print: each turn adds the text of one byte or of one row.
-use Rattle.std.proofs.Common.{◌≡◌, ℕ, zero, suc, ◌+◌, ◌-◌, ◌/◌, ◌%◌, ◌^◌, ◌<◌, false, List, [], ◌∷◌, ◌++◌, length, get_or, take, codes, sym, refl, ap, ◌∙◌, append_assoc, le_of_suc-le-suc, not-suc-le-zero, add-one}
-use Rattle.std.specs.Fmt.{digit_glyph, digits, format_spec, padded_integral}
-use Rattle.std.proofs.lemmas.Fmt.{hex_byte}
+use Rattle.std.proofs.Common.{◌≡◌, ℕ, zero, suc, ◌+◌, ◌/◌, ◌%◌, ◌<◌, false, List, [], ◌∷◌, ◌++◌, length, get_or, take, codes, sym, refl, ap, ◌∙◌, append_assoc, le_of_suc-le-suc, not-suc-le-zero, add-one}
+use Rattle.std.specs.Fmt.{digit_glyph}
 use Rattle.bundles.specs.Format.{Row}
 use Rattle.bundles.specs.Bundles.{unit_of, unit_number, row_of}
 use Rattle.bundles.specs.declared.rows.AmountUnit.{AmountUnit}
@@ -32,8 +31,6 @@ hex_pushed [] i h = absurd (not-suc-le-zero h)
 hex_pushed (b ∷ bytes) zero h = refl
 hex_pushed (b ∷ bytes) (suc i) h = ap (λ t. digit_glyph false (b / 16) ∷ (digit_glyph false (b % 16) ∷ t)) (hex_pushed bytes i (le_of_suc-le-suc h))
 
--- what is written of the bytes before, and of the next
-pub hex_more : (bytes : List ℕ) (i : ℕ) → i < length bytes → get_or bytes i 0 < 256
-    → hexed (take (i + 1) bytes) ≡ hexed (take i bytes) ++ padded_integral (format_spec 32 0 4 2 (2 ^ 64 - 1)) false [] (digits 16 false (get_or bytes i 0))
-hex_more bytes i h small =
-    ap (λ k. hexed (take k bytes)) (add-one i) ∙ hex_pushed bytes i h ∙ ap (λ t. hexed (take i bytes) ++ t) (sym (hex_byte false (get_or bytes i 0) small))
+-- what is written of the bytes before, and the two digits of the next
+pub hex_more : (bytes : List ℕ) (i : ℕ) → i < length bytes → hexed (take (i + 1) bytes) ≡ (hexed (take i bytes) ++ (digit_glyph false (get_or bytes i 0 / 16) ∷ [])) ++ (digit_glyph false (get_or bytes i 0 % 16) ∷ [])
+hex_more bytes i h = ap (λ k. hexed (take k bytes)) (add-one i) ∙ hex_pushed bytes i h ∙ sym (append_assoc (hexed (take i bytes)) (digit_glyph false (get_or bytes i 0 / 16) ∷ []) (digit_glyph false (get_or bytes i 0 % 16) ∷ []))
