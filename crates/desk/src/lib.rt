@@ -10,5 +10,5 @@ mod serving;
 mod state;
 
 pub use orders::{Ask, Hand, Lent, Order, Replies, Reply, Sizes};
-pub use serving::blank_cells;
+pub use serving::{blank_cells, serve};
 pub use state::Desk;

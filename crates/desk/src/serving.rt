@@ -5,10 +5,12 @@ ghost use Rattle.pool.specs.Asked.{holding, sizes};
 ghost use Rattle.desk.specs.Reading.{desk_of};
 ghost use Rattle.desk.specs.Serving.{AtDesk, Ordered, Same, Served, Turned, Untouched};
 
+use crate::calling;
 use crate::orders::{Ask, Order, Replies, Reply, Sizes};
 use crate::state::Desk;
 use chains::Cell;
 use keys::Key;
+use pool::{Loan, Pool};
 use records::Entry;
 use std::alloc::{AllocError, Global};
 use stores::Store;
@@ -20,30 +22,59 @@ pub fn blank_cells<K: Copy>(heap: Global, count: usize) -> Result<Vec<Cell<Entry
     vec![in heap; chains::blank(); count]
 }
 
-impl Desk {
-    // A call with other memory, which is not of the pool's sizes.
-    fn call_with<K: Key + Copy, S: Store<K>>(
-        &mut self,
-        heap: Global,
-        store: &mut S,
-        ask: &Ask<K>,
-        lent: Sizes,
-    ) -> Result<Reply<K>, AllocError>
-        requires { sizes self.old.pool.frames (S.Store.meant store.old).size lent.bytes lent.cells ≢ None }
-        ensures { MatchResult result (λ r. Turned K.Key.meaning ask.now lent self.old.pool (S.Store.meant store.old) self.old.hands.items r self.new.pool (S.Store.meant store.new) self.new.hands.items) (λ _. Untouched self.old.pool (S.Store.meant store.old) self.old.hands.items self.new.pool (S.Store.meant store.new) self.new.hands.items) }
-    {
-        let mut frames = vec![in heap; 0u8; lent.bytes]?;
-        let mut cells = blank_cells::<K>(heap, lent.cells)?;
-        self.call(
-            heap,
-            frames.as_mut_slice(),
-            cells.as_mut_slice(),
-            store,
-            ask,
-        )
-    }
+// A call with other memory, which is not of the pool's sizes.
+fn call_with<K: Key + Copy, S: Store<K>>(
+    heap: Global,
+    pool: &mut Pool,
+    store: &mut S,
+    hands: &mut Vec<Option<Loan>>,
+    ask: &Ask<K>,
+    lent: Sizes,
+) -> Result<Reply<K>, AllocError>
+    requires { sizes pool.old.frames (S.Store.meant store.old).size lent.bytes lent.cells ≢ None }
+    ensures { MatchResult result (λ r. Turned K.Key.meaning ask.now lent pool.old (S.Store.meant store.old) hands.old.items r pool.new (S.Store.meant store.new) hands.new.items) (λ _. Untouched pool.old (S.Store.meant store.old) hands.old.items pool.new (S.Store.meant store.new) hands.new.items) }
+{
+    let mut frames = vec![in heap; 0u8; lent.bytes]?;
+    let mut cells = blank_cells::<K>(heap, lent.cells)?;
+    calling::call(
+        heap,
+        pool,
+        frames.as_mut_slice(),
+        cells.as_mut_slice(),
+        store,
+        hands,
+        ask,
+    )
+}
 
-    /// One order. Want of memory is an error, and nothing was done then.
+/// One order, with the pool and the hands lent apart. Want of memory is an error, and nothing was done then.
+pub fn serve<K: Key + Copy, S: Store<K>>(
+    heap: Global,
+    pool: &mut Pool,
+    frames: &mut [u8],
+    cells: &mut [Cell<Entry<K>>],
+    store: &mut S,
+    hands: &mut Vec<Option<Loan>>,
+    order: &Order<K>,
+) -> Result<Reply<K>, AllocError>
+    requires { AtDesk K.Key.meaning (holding pool.old frames.old cells.old (S.Store.meant store.old)) hands.old.items }
+    ensures at { AtDesk K.Key.meaning (holding pool.new frames.new cells.new (S.Store.meant store.new)) hands.new.items }
+    ensures made { MatchResult result (λ r. Ordered K.Key.meaning order.now (desk_of K.Key.meaning (holding pool.old frames.old cells.old (S.Store.meant store.old)) hands.old.items) r (desk_of K.Key.meaning (holding pool.new frames.new cells.new (S.Store.meant store.new)) hands.new.items)) (λ _. Same (holding pool.old frames.old cells.old (S.Store.meant store.old)) hands.old.items (holding pool.new frames.new cells.new (S.Store.meant store.new)) hands.new.items) }
+{
+    let own = Sizes {
+        bytes: frames.len(),
+        cells: cells.len(),
+    };
+    let lent = order.lent.unwrap_or(own);
+    if lent == own {
+        calling::call(heap, pool, frames, cells, store, hands, &order.ask)
+    } else {
+        call_with(heap, pool, store, hands, &order.ask, lent)
+    }
+}
+
+impl Desk {
+    /// One order at the desk: `serve` with its pool and hands.
     pub fn serve<K: Key + Copy, S: Store<K>>(
         &mut self,
         heap: Global,
@@ -56,16 +87,15 @@ impl Desk {
         ensures at { AtDesk K.Key.meaning (holding self.new.pool frames.new cells.new (S.Store.meant store.new)) self.new.hands.items }
         ensures made { MatchResult result (λ r. Ordered K.Key.meaning order.now (desk_of K.Key.meaning (holding self.old.pool frames.old cells.old (S.Store.meant store.old)) self.old.hands.items) r (desk_of K.Key.meaning (holding self.new.pool frames.new cells.new (S.Store.meant store.new)) self.new.hands.items)) (λ _. Same (holding self.old.pool frames.old cells.old (S.Store.meant store.old)) self.old.hands.items (holding self.new.pool frames.new cells.new (S.Store.meant store.new)) self.new.hands.items) }
     {
-        let own = Sizes {
-            bytes: frames.len(),
-            cells: cells.len(),
-        };
-        let lent = order.lent.unwrap_or(own);
-        if lent == own {
-            self.call(heap, frames, cells, store, &order.ask)
-        } else {
-            self.call_with(heap, store, &order.ask, lent)
-        }
+        serve(
+            heap,
+            &mut self.pool,
+            frames,
+            cells,
+            store,
+            &mut self.hands,
+            order,
+        )
     }
 
     // The orders one after another, with a reply for each, until the list or the memory is at its end.
