@@ -134,6 +134,8 @@ impl Chains {
     }
 
     /// A chain whose member goes to its head, leaves it, joins it or stays away, by whether the cell was and is to be in it.
+    // inlined: a caller names the chain, and often knows one of the two answers
+    #[inline]
     pub fn follow<T>(&mut self, cells: &mut [Cell<T>], which: Chain, i: CellNo, was: bool, is: bool)
         requires intact { Intact cells.old self.old }
         requires cell { i.0 < (shape_of cells.old self.old).size }

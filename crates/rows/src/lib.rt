@@ -227,6 +227,9 @@ impl Table {
     }
 
     /// The entry of a row becomes `new` and goes to the head.
+    // inlined: each step of the hands knows some flags of the old and of the new entry, so that it passes over the chains and
+    // counts which they do not touch
+    #[inline(always)]
     pub fn turn<K: Copy>(&mut self, cells: &mut [Cell<Entry<K>>], row: Row<K>, new: Entry<K>)
         requires stands { Stands cells.old self.old }
         requires there { ContainsAt (rows_in cells.old self.old) row }
@@ -245,6 +248,8 @@ impl Table {
     }
 
     /// The entry of a row becomes `new` where it stands. It joins no chain by that: what is cold or marked then was so before.
+    // inlined: most callers change one field, so that neither entry has to be laid out in memory for a call
+    #[inline(always)]
     pub fn rewrite<K: Copy>(&mut self, cells: &mut [Cell<Entry<K>>], row: Row<K>, new: Entry<K>)
         requires stands { Stands cells.old self.old }
         requires there { ContainsAt (rows_in cells.old self.old) row }
@@ -336,6 +341,8 @@ fn belongs<K: Copy>(which: Chain, entry: Option<Entry<K>>) -> bool
 
 /// A cell takes an entry, another entry or none. It goes to the head of each chain that it then belongs to, and leaves the
 /// others.
+// inlined: each caller knows whether there was and is to be an entry, so that some of what follows is settled beforehand
+#[inline(always)]
 fn refile<K: Copy>(
     cells: &mut [Cell<Entry<K>>],
     chains: &mut Chains,
