@@ -56,6 +56,8 @@ impl<K: Key> From<&Entry<K>> for Letters {
 
 impl Letters {
     /// The letters as text.
+    // stays: twelve texts, so that this cannot fail and asks no memory. Letter, mark and bit written one after another took
+    // twice as long and more.
     pub fn text(self) -> &'static str
         ensures { result.now ≡ spelled self }
     {
